@@ -1,24 +1,21 @@
-#!/usr/bin/env python3
-"""Runs the second checker on the logs of the repository: python3 second/test_recheck.py [PROGRAM]. The last line is
-`second checker: N passed, M failed`. Exit status: 0, or 1 where one failed. With a PROGRAM, the proved one, it is asked
-by `check`, `retrack` and `judge` in the checker's place, and the last line begins with `program`.
+"""Tests of the second checker, on the logs of the repository and on logs that are written here.
 
-The verdicts are those of `gpscover check` and `gpscover judge`, or found by hand from docs/LOG.md; so are the numbers
-of the mapping, from docs/EQUATIONS.md.
+The verdicts are those of `gpscover check` and `gpscover judge`, or found by hand from docs/LOG.md; so are the numbers of
+the mapping, from docs/EQUATIONS.md. The proved program is asked the same by `check`, `retrack` and `judge`.
 """
+import ast
 import re
+import shutil
 import subprocess
 import sys
 import tempfile
 from itertools import product
 from pathlib import Path
 
+import pytest
 import recheck
-import sample
 
 TOP = Path(__file__).resolve().parent.parent
-sys.path.append(str(TOP / "scripts"))
-import forged_logs  # of scripts/, whose answers were found by hand
 DATA = TOP / "crates/gpscover/data"
 FILES = [DATA / name for name in ("receiver.obs", "receiver.nav", "settings.toml")]
 LOG = DATA / "receiver.log"
@@ -321,31 +318,6 @@ FACTORS = (
 SHELL_FACTORS = ((10**16, "1.0000"), (0, "3.1414"), (-6 * 10**15, "1.5342"))
 
 
-def drawn_numbers(files, epoch, satellite, used):
-    """The names of numbers outside of the own row, drawn as the equations leave them at corners of the box."""
-    row, codes, settings = files.row(epoch, satellite, used, files.box), epoch.satellites[satellite], files.settings
-    outside = []
-    for number, signs in enumerate(product((0, 1), repeat=3)):
-        draw = sample.Drawer(("low", "high", "any", "mixed")[number % 4], 100 * number + int(satellite[1:]))
-        point = [files.box[axis + 3 * sign] for axis, sign in enumerate(signs)]
-        numbers = sample.allowed(draw, used[1], epoch.time, codes, settings.dual, point, settings.delays,
-                                 settings.bounds_of(satellite))
-        outside += [name for name, number, (low, high) in zip(sample.NAMES, numbers, row, strict=True)
-                    if not low <= number <= high]
-    return outside
-
-
-def drawn_cases(folder):
-    """(what, found, wanted) of drawn numbers over a box of 400 m, and one of 2 mm, where the own spans are narrow."""
-    for zenith, half in (("[1800, 3000]", 200_000), ("[2500, 2500]", 1), ("[1800, 3000]\nvertical = [-7000, 35000]", 150_000),
-                         ("[2500, 2500]\nvertical = [10000, 10000]", 2)):
-        files = recheck.Files(*mapped_paths(folder, zenith, half))
-        for satellite, used in files.satellites(files.epochs[0]):
-            if used[0] == "sat":
-                outside = drawn_numbers(files, files.epochs[0], satellite, used)
-                yield f"drawn numbers of {satellite.decode()}, half a side {half} mm", outside, []
-
-
 def value_cases(folder):
     """(what, found, wanted) of values of the second checker's own."""
     scale = recheck.ONE // 10**6
@@ -491,6 +463,7 @@ def pair_settings_cases(folder):
 
 # By the mode and what stands behind the other tables of the settings: the first fault.
 GALILEO = '[galileo]\ncodes = ["C1C", "C5Q"]\noffset = [-3, 5]\n'
+INAV = GALILEO.replace("C5Q", "C7Q") + 'message = "I/NAV"\n'
 BOTH_CASES = (
     ("dual", GALILEO, None),
     ("dual", GALILEO.replace('"C1C", ', ""), "33 Outside galileo.codes"),
@@ -503,6 +476,25 @@ BOTH_CASES = (
     ("dual", GALILEO.replace("-3", "-1000001"), "33 Outside galileo.offset"),
     ("dual", GALILEO.replace("-3", "6"), "33 Outside galileo.offset"),
     ("dual", GALILEO + "sign = 1\n", "34 Unknown galileo.sign"),
+    ("dual", GALILEO + 'message = "F/NAV"\n', None),
+    ("dual", GALILEO + 'message = "I/NAV"\n', "33 Outside galileo.codes"),
+    ("dual", INAV, None),
+    ("dual", INAV.replace("C7Q", "C7X"), None),
+    ("dual", INAV.replace("C7Q", "C5Q"), "33 Outside galileo.codes"),
+    ("dual", INAV.replace(', "C7Q"', ""), "33 Outside galileo.codes"),
+    ("dual", INAV.replace("I/NAV", "F/NAV"), "33 Outside galileo.codes"),
+    ("dual", INAV.replace("I/NAV", "i/nav"), "33 Outside galileo.message"),
+    ("dual", INAV.replace("I/NAV", "INAV").replace("C7Q", "C2W"), "33 Outside galileo.message"),
+    ("dual", INAV.replace('"I/NAV"', "1").replace("C7Q", "C2W"), "32 WrongKind galileo.message"),
+    ("dual", INAV.replace('"I/NAV"', '["I/NAV"]'), "32 WrongKind galileo.message"),
+    ("dual", INAV.replace("message", "messages"), "33 Outside galileo.codes"),
+    ("dual", '[galileo]\nmessage = "I/NAV"\n', "31 Missing galileo.codes"),
+    ("single", INAV, "33 Outside galileo.codes"),
+    ("single", INAV.replace(', "C7Q"', ""), None),
+    ("single", INAV.replace(', "C7Q"', "").replace("I/NAV", "F/NAV"), "33 Outside galileo.codes"),
+    ("single", INAV.replace(', "C7Q"', "").replace("I/NAV", ""), "33 Outside galileo.message"),
+    ("single", INAV.replace(', "C7Q"', "").replace("-3", "6"), "33 Outside galileo.offset"),
+    ("single", INAV.replace(', "C7Q"', "") + "[satellite]\nE99 = [0, 1]\n", None),
     ("dual", GALILEO + "[satellite]\nE99 = [0, 1]\nG01 = [0, 1]\n", None),
     ("dual", GALILEO + "[satellite]\nG01 = [1, 0]\nE99 = [1, 0]\n", "33 Outside satellite.E99"),
     ("dual", GALILEO + "[satellite]\nE00 = [0, 1]\n", "34 Unknown satellite.E00"),
@@ -516,10 +508,15 @@ BOTH_CASES = (
     ("dual", "[motion]\nspeed = 1000001\n", "33 Outside motion.speed"),
     ("dual", "[motion]\n", None),
 )
-# What the second field of line 5 of a Galileo record says, and whether the record is kept: bits 1 and 8.
-SOURCES = (("258", True), ("259", True), ("262", True), ("1023", True), ("1282", False), ("2", False), ("256", False),
-           ("257", False), ("513", False), ("516", False), ("517", False), ("770", True), ("0", False), ("-258", False),
-           ("258.5", False), ("2.58E2", True))
+# What the second field of line 5 of a Galileo record says, by the messages that keep the record: F/NAV by the bits 1 and 8,
+# I/NAV by 9 and one of 0 and 2 where 1 and 8 are clear.
+SOURCES = {
+    "F/NAV": "258 259 262 770 771 774 1023 2.58E2",
+    "I/NAV": "513 516 517 525 637 645 653 765 5.17E2",
+    "": "0 1 2 5 256 257 260 261 512 514 515 518 519 769 772 773 1282 1541 -258 -517 258.5 517.000001 1024 1E30",
+}
+# Healths of a Galileo record that are healthy by I/NAV, and such as aren't: the bits 0 to 2 are E1's, 6 to 8 E5b's.
+HEALTHS = {True: "0 8 16 24 32 40 48 56 1.6E1", False: "1 2 4 7 9 17 57 64 72 128 256 320 512 1024 1032 -8 8.5 1E30"}
 
 
 def both_values():
@@ -536,37 +533,30 @@ def both_values():
     common = settings.bounds
     for name, own in ((b"G05", [0, 0]), (b"E06", [-3000, 5000]), (b"E05", [-10_000, 16_000])):
         yield f"bounds of {name}", settings.bounds_of(name), [end + more for end, more in zip(common, own)]
-    galileo = recheck.SYSTEMS[b"E"]
-    for source, wanted in SOURCES:
-        record = recheck.Record(galileo, 0, {"toe": 0, "source": recheck.decimal(source.encode(), exponent=True)})
-        yield f"source {source}", record.is_kept(), wanted
-    yield "a record of GPS", recheck.Record(recheck.SYSTEMS[b"G"], 0, {"toe": 0}).is_kept(), True
-    # 23716 * 20000000 - 13225 * 20000005, over 10491, is 19999993.6969783..
-    measured = recheck.pseudorange([recheck.Fraction(20_000_000), recheck.Fraction(20_000_005)], galileo.weights)
-    yield "a combination", int(measured * 10**6), 19_999_993_696_978
+    yield from message_values()
+
+
+def message_values():
+    """(what, found, wanted) of records by each message, and of the two codes' combination."""
+    fnav, inav = recheck.MESSAGES["F/NAV"], recheck.MESSAGES["I/NAV"]
+    for message, system in recheck.MESSAGES.items():
+        for keeps, source in ((keeps, source) for keeps, sources in SOURCES.items() for source in sources.split(" ")):
+            record = recheck.Record(system, 0, {"toe": 0, "source": recheck.decimal(source.encode(), exponent=True)})
+            yield f"source {source} by {message}", record.is_kept(), keeps == message
+    for healthy, health in ((healthy, health) for healthy, healths in HEALTHS.items() for health in healths.split(" ")):
+        values = {"toe": 0, "health": recheck.decimal(health.encode(), exponent=True)}
+        yield f"health {health}", recheck.Record(inav, 0, values).is_healthy(), healthy
+        for system in (fnav, recheck.GPS):
+            yield f"health {health}", recheck.Record(system, 0, values).is_healthy(), health == "0"
+    yield "a record of GPS", recheck.Record(recheck.GPS, 0, {"toe": 0}).is_kept(), True
+    # 23716 * 20000000 - 13225 * 20000005, over 10491, is 19999993.6969783..; with 13924 over 9792 19999992.8901143..
+    for system, wanted in ((fnav, 19_999_993_696_978), (inav, 19_999_992_890_114)):
+        measured = recheck.pseudorange([recheck.Fraction(20_000_000), recheck.Fraction(20_000_005)], system.weights)
+        yield "a combination", int(measured * 10**6), wanted
     # The root of mu * 10^116 over the sixth power of 5440.6 * 10^12, and by the mu of GPS.
-    for system, wanted in ((galileo, 1_239_733_955_228_326_673), (recheck.SYSTEMS[b"G"], 1_239_734_045_735_644_270)):
+    for system, wanted in ((fnav, 1_239_733_955_228_326_673), (inav, 1_239_733_955_228_326_673),
+                           (recheck.GPS, 1_239_734_045_735_644_270)):
         yield "a mean motion", recheck.isqrt(system.mu * 10**116 // 5_440_600_000_000_000**6), wanted
-
-
-def wanted_answer(told):
-    """The status and the line of an answer of scripts/forged_logs.py."""
-    line = told if isinstance(told, str) else told[0]
-    return {"y": 0, "n": 1}.get(line[0], 3), line
-
-
-def renewal_cases(folder):
-    """(words, status and line) of judged logs with renewals, and of such logs beside a receiver's files."""
-    for number, (lines, told) in enumerate(forged_logs.short_renewals()):
-        path = Path(folder) / f"renewal{number}.log"
-        path.write_bytes(forged_logs.text(lines))
-        yield (path,), wanted_answer(told)
-    files = forged_logs.Files()
-    paths = [written(folder, f"renewals.{end}", text) for end, text in (("obs", files.obs), ("nav", files.nav))]
-    given = [(files.settings, lines, told) for _, lines, told in forged_logs.checked_renewals(files)]
-    for number, (settings, lines, told) in enumerate([*given, *forged_logs.checked_rules(files)]):
-        log = written(folder, f"renewed{number}.log", forged_logs.text(lines).decode())
-        yield (*paths, written(folder, f"renewed{number}.toml", settings), log), wanted_answer(told)
 
 
 # The track of a receiver in a search box of 2 km along x and 40 m along y and z. In the first epoch all beyond 400 m
@@ -742,31 +732,54 @@ def tube_values(folder):
     yield "hull", recheck.hull([[0, 5, -3, 1, 6, -2], [-4, 5, -9, -3, 7, -8]]), [-4, 5, -9, 1, 7, -2]
 
 
-def main():
-    program = sys.argv[1] if sys.argv[1:] else None
-    with tempfile.TemporaryDirectory() as folder:
-        cases = [*verdict_cases(folder), *sure_cases(folder), *zenith_cases(folder), *mapped_cases(folder),
-                 *pair_cases(folder), *pair_settings_cases(folder), *renewal_cases(folder), *track_cases(folder),
-                 *speed_cases(folder),
-                 *selection_cases(folder), *wrong_word_cases()]
-        values = [*value_cases(folder), *drawn_cases(folder), *both_values(), *tube_values(folder)]
-        if program:  # which has other words and no calls
-            cases, values = [case for case in cases if case[1] != WRONG_WORDS], []
-        failed = 0
-        for words, wanted in cases:
-            status, line = found = program_verdict(program, words) if program else verdict(*words)
-            if wanted[1].startswith("no 53"):  # the own span behind it isn't found by hand
-                found = status, line[:len(wanted[1])]
-            if found not in (wanted, (wanted[0], wanted[1] + "\n")):
-                failed += 1
-                print(f"{' '.join(map(str, words))}: {found} and not {wanted}")
-        for what, found, wanted in values:
-            if found != wanted:
-                failed += 1
-                print(f"{what}: {found} and not {wanted}")
-    print(f"{'program' if program else 'second checker'}: {len(cases) + len(values) - failed} passed, {failed} failed")
-    return 1 if failed else 0
+# The folder goes with the tests' process.
+ROOM = tempfile.TemporaryDirectory()
+WORDS = (verdict_cases, sure_cases, zenith_cases, mapped_cases, pair_cases, pair_settings_cases, track_cases, speed_cases,
+         selection_cases)
+VALUES = value_cases, tube_values
 
 
-if __name__ == "__main__":
-    sys.exit(main())
+def named(makers, *more):
+    """The cases of some functions, each with a name of its own."""
+    for maker in makers:
+        for number, case in enumerate(maker(*more)):
+            yield pytest.param(*case, id=f"{maker.__name__} {number}")
+
+
+CASES = [*named(WORDS, ROOM.name)]
+
+
+def expect(found, wanted):
+    """A status and a line are the wanted ones."""
+    status, line = found
+    if wanted[1].startswith("no 53"):  # the own span behind it isn't found by hand
+        line = line[:len(wanted[1])]
+    assert (status, line) in (wanted, (wanted[0], wanted[1] + "\n"))
+
+
+@pytest.mark.parametrize("words, wanted", [*CASES, *named([wrong_word_cases])])
+def test_the_second_checker_says(words, wanted):
+    expect(verdict(*words), wanted)
+
+
+@pytest.mark.parametrize("words, wanted", CASES)
+def test_the_program_says(program, words, wanted):
+    expect(program_verdict(program, words), wanted)
+
+
+@pytest.mark.parametrize("what, found, wanted", [*named(VALUES, ROOM.name), *named([both_values])])
+def test_a_value(what, found, wanted):
+    assert found == wanted, what
+
+
+def test_it_stands_alone(room):
+    """It has the standard library alone, and runs with nothing of the repository beside it."""
+    source = TOP / "second/recheck.py"
+    imports = [node for node in ast.walk(ast.parse(source.read_text())) if isinstance(node, (ast.Import, ast.ImportFrom))]
+    names = {alias.name for node in imports if isinstance(node, ast.Import) for alias in node.names}
+    names |= {"." * node.level + (node.module or "") for node in imports if isinstance(node, ast.ImportFrom)}
+    assert {name.partition(".")[0] for name in names} <= sys.stdlib_module_names
+    shutil.copy(source, room)
+    words = [sys.executable, "-I", "recheck.py", *FILES, LOG]
+    ran = subprocess.run(words, cwd=room, env={}, capture_output=True, text=True, check=False)
+    assert (ran.returncode, ran.stdout, ran.stderr) == (0, "yes 48\n", "")

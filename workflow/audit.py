@@ -19,7 +19,9 @@ import sys
 import tempfile
 from pathlib import Path
 
-from steps import ROOT, StepError, digest, unpack_all, unpacked
+from files import StepError, digest, unpack_all, unpacked
+
+ROOT = Path(__file__).resolve().parent.parent
 
 
 def files_of(base, part):

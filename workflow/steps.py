@@ -12,8 +12,6 @@ Exit status: 0; 1 with one line, which names station, day and part, on standard 
 import argparse
 import contextlib
 import csv
-import hashlib
-import json
 import os
 import resource
 import shutil
@@ -24,131 +22,17 @@ import time
 from pathlib import Path
 from string import Template
 
-HERE = Path(__file__).resolve().parent
-ROOT = HERE.parent
-sys.path.insert(0, str(ROOT / "scripts"))
+from gpscover import summary
+import tables
+from gpscover.errors import Error
+from files import StepError, digest, last_line, read_json, run, settle, unpack_all, unpacked, write_json
+from network import COSTS, told
 
-import summary  # noqa: E402 - of scripts/
-from coverlog import LogError  # noqa: E402
-from network import COSTS, told  # noqa: E402
-
-PIECE = 1 << 20
-GZIP, COMPRESS = b"\x1f\x8b", b"\x1f\x9d"  # what .gz and .Z begin with
-HATANAKA = b"CRINEX VERS   / TYPE"  # columns 61 to 80 of the first line
+ROOT = Path(__file__).resolve().parent.parent
 BOUNDS_HEAD = "[bounds]"
-ROW_HEAD = ["station", "day", "part", *summary.COLUMNS]
-
-
-class StepError(Exception):
-    """What ended a step; its text is the end of one line for the user."""
-
-
-# ---- files
-
-def digest(path):
-    """Size and checksum of a file."""
-    sums, size = hashlib.sha256(), 0
-    with open(path, "rb") as file:
-        while piece := file.read(PIECE):
-            sums.update(piece)
-            size += len(piece)
-    return {"bytes": size, "sha256": sums.hexdigest()}
-
-
-def settle(path, target):
-    """Gives a whole file its own name, once it is on the disk."""
-    with open(path, "rb+") as file:
-        os.fsync(file.fileno())
-    os.makedirs(os.path.dirname(target) or ".", exist_ok=True)
-    os.replace(path, target)
-
-
-def write_json(path, value):
-    """Writes a value with sorted keys, so that equal values are equal bytes."""
-    Path(path).write_text(json.dumps(value, indent=1, sort_keys=True) + "\n", encoding="utf-8")
-
-
-def read_json(path):
-    """A value from a file."""
-    return json.loads(Path(path).read_text(encoding="utf-8"))
-
-
-def last_line(text):
-    """The last line of what a program said, or what to say where it said nothing."""
-    lines = [line.strip() for line in text.splitlines() if line.strip()]
-    return lines[-1] if lines else "without a word"
-
-
-def run(words, what, **streams):
-    """Runs a program to its end. StepError with its own last word where the status isn't 0."""
-    try:
-        ended = subprocess.run(words, stderr=subprocess.PIPE, **streams)
-    except FileNotFoundError:
-        raise StepError(f"{what}: there is no {words[0]}") from None
-    if ended.returncode != 0:
-        status = ended.returncode
-        how = f"status {status}" if status > 0 else f"killed by signal {-status}"
-        raise StepError(f"{what}: {how}, {last_line(ended.stderr.decode(errors='replace'))}")
-    return ended
 
 
 # ---- unpack
-
-def unpack_one(source, target):
-    """Writes a file to `target` as it was before gzip (or compress) and Hatanaka's compression."""
-    if not os.path.exists(source):
-        raise StepError(f"{source} isn't there")
-    with open(source, "rb") as file:
-        packed = file.read(2) in (GZIP, COMPRESS)
-    if packed:
-        with open(target, "wb") as file:
-            run(["gzip", "-dc", source], source, stdout=file)
-    else:
-        shutil.copyfile(source, target)
-    with open(target, "rb") as file:
-        is_hatanaka = file.readline(PIECE)[60:80] == HATANAKA
-    if is_hatanaka:
-        undo_hatanaka(source, target)
-
-
-def undo_hatanaka(source, target):
-    """Undoes Hatanaka's compression by the program that its authors give away."""
-    program = shutil.which("crx2rnx") or shutil.which("CRX2RNX")
-    if program is None:
-        raise StepError(
-            f"{source} has Hatanaka's compression, and crx2rnx isn't on the path:"
-            " it is in RNXCMP of the Geospatial Information Authority of Japan"
-        )
-    packed = f"{target}.crx"
-    os.replace(target, packed)
-    with open(packed, "rb") as given, open(target, "wb") as file:
-        run([program], source, stdin=given, stdout=file)
-    os.remove(packed)
-
-
-def join_navigation(paths, target):
-    """Writes the first file, and behind it the records of the others."""
-    with open(target, "wb") as whole:
-        for number, path in enumerate(paths):
-            is_record = number == 0
-            with open(path, "rb") as file:
-                for line in file:
-                    if is_record:
-                        whole.write(line)
-                    is_record = is_record or line[60:73] == b"END OF HEADER"
-
-
-def unpack_all(observations, navigation, room):
-    """The observation and the navigation file as the program reads them, in `room`."""
-    obs, nav = f"{room}/obs", f"{room}/nav"
-    unpack_one(observations, obs)
-    unpacked = []
-    for number, source in enumerate(navigation):
-        unpacked.append(f"{room}/nav{number}")
-        unpack_one(source, unpacked[-1])
-    join_navigation(unpacked, nav)
-    return obs, nav
-
 
 def unpack(args, room):
     """Unpacks the files of a part, and notes what they were made of."""
@@ -172,7 +56,7 @@ def filled(path, place):
 
 
 def by_elevation(args, text, place, room):
-    """Settings whose tables of bounds are made by scripts/bounds.py of a first look without splits."""
+    """Settings whose tables of bounds are made by `gpslog bounds` of a first look without splits."""
     head, found, _ = text.partition(BOUNDS_HEAD)
     if not found or place is None:
         raise StepError("bounds: the template needs a line [bounds], and the station a place")
@@ -182,9 +66,8 @@ def by_elevation(args, text, place, room):
     words = [args.program, "solve", obs, nav, f"{room}/first", f"{room}/log"]
     run(words, "a first look", stdout=subprocess.DEVNULL)
     metres = [f"{at / 1000:.3f}" for at in place]
-    words = [sys.executable, ROOT / "scripts/bounds.py", f"{room}/log", *metres, *args.bounds.split()]
-    tables = run(words, "bounds", stdout=subprocess.PIPE).stdout.decode()
-    return head + tables
+    words = [sys.executable, "-m", "gpscover", "bounds", f"{room}/log", *metres, *args.bounds.split()]
+    return head + run(words, "bounds", stdout=subprocess.PIPE).stdout.decode()
 
 
 def settings(args, room):
@@ -264,13 +147,6 @@ def compress(args, room):
     settle(f"{room}/zst", args.file["zst"])
 
 
-def unpacked(path, target):
-    """Writes the log of a compressed one to `target`. Its size and checksum."""
-    with open(target, "wb") as file:
-        run(["zstd", "-q", "-dc", path], path, stdout=file)
-    return digest(target)
-
-
 # ---- tables
 
 def rows(args, room):
@@ -284,7 +160,7 @@ def rows(args, room):
         put_aside(args, "it isn't the one that was checked")
     with open(f"{room}/csv", "w", encoding="utf-8", newline="") as file:
         table = csv.writer(file, lineterminator="\n")
-        table.writerow(ROW_HEAD)
+        table.writerow(tables.ROW_HEAD)
         head = [args.station, args.day, args.part]
         summary.summarize(f"{room}/log", lambda *epoch: table.writerow(head + summary.csv_line(*epoch[:3])))
     settle(f"{room}/csv", args.file["csv"])
@@ -293,14 +169,14 @@ def rows(args, room):
 def day(args, room):
     """One table of a day of a station: the rows of its parts in order, all of the same files."""
     paths = args.words
-    verdicts, tables = paths[: len(paths) // 2], paths[len(paths) // 2 :]
+    verdicts, parts = paths[: len(paths) // 2], paths[len(paths) // 2 :]
     found = [read_json(path)["files"] for path in verdicts]
     for key in ("obs", "nav", "settings"):
         if len({files[key]["sha256"] for files in found}) != 1:
             raise StepError(f"the parts were made of different files ({key})")
     last = 0
     with open(f"{room}/csv", "w", encoding="utf-8", newline="") as whole:
-        for number, path in enumerate(tables):
+        for number, path in enumerate(parts):
             with open(path, encoding="utf-8", newline="") as file:
                 head = file.readline()
                 whole.write(head if number == 0 else "")
@@ -315,16 +191,12 @@ def day(args, room):
 
 def database(args, room):
     """The database of the run."""
-    import tables
-
     tables.make_database(args, f"{room}/sqlite")
     settle(f"{room}/sqlite", args.file["sqlite"])
 
 
 def page(args, room):
     """The page of the run."""
-    import tables
-
     Path(f"{room}/html").write_text(tables.page(args.file["sqlite"], args.epochs), encoding="utf-8")
     settle(f"{room}/html", args.file["html"])
 
@@ -398,7 +270,7 @@ def main():
         note.write_text("")
     try:
         perform(args)
-    except (StepError, LogError, OSError) as error:
+    except (StepError, Error, OSError) as error:
         line = f"{name}: {args.step}: {error}"
         print(f"gpscover: {line}", file=sys.stderr)
         with contextlib.suppress(OSError):

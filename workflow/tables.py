@@ -11,8 +11,10 @@ import sqlite3
 import statistics
 from collections import Counter, defaultdict
 
-from steps import ROW_HEAD, StepError, read_json
+from gpscover import summary
+from files import StepError, read_json
 
+ROW_HEAD = ["station", "day", "part", *summary.COLUMNS]
 WHOLE = {"part", "epoch", "satellites", "in", "edge", "out", "splits"}
 TEXT = {"station", "day", "gps_time", "mark", "faces"}
 FILES = "station day part role name bytes sha256 verdict program commit_id".split()

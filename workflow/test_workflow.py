@@ -1,12 +1,10 @@
-#!/usr/bin/env python3
-"""Tests of the workflow: python3 workflow/test_workflow.py PROGRAM [--slurm]. The last line is
-`workflow: N passed, M failed`, and how many were left out. Exit status: 0, or 1 where one failed.
+"""Tests of the workflow.
 
 Two recorded stations with a day of two parts each are solved, checked and tabled on four jobs; then jobs are
 killed, files changed or taken away, and a disk filled. Each time the run has to end with a line that names
 station, day and part, the other parts have to be done, and the next run has to make the same tables to the
 byte. With --slurm the same is run on a Slurm, with a node that is drained and one that is lost:
-scripts/slurm_here.sh --nodes 2 -- python3 workflow/test_workflow.py PROGRAM --slurm.
+scripts/slurm_here.sh --nodes 2 -- python3 -m pytest workflow --slurm --program PROGRAM.
 """
 import gzip
 import os
@@ -18,12 +16,12 @@ import subprocess
 import sys
 import tempfile
 import time
-import unittest
 from pathlib import Path
 
-import made_network  # before those of scripts/, which it puts on the path
-import coverlog
-import testing
+import pytest
+
+from gpscover.log import epochs as epochs_of
+from tools.made import made_network
 
 HERE = Path(__file__).resolve().parent
 ROOT = HERE.parent
@@ -77,12 +75,36 @@ exec '{program}' "$@"
 """
 
 
+pytestmark = pytest.mark.skipif(
+    not (shutil.which("snakemake") and shutil.which("zstd")), reason="snakemake or zstd isn't there"
+)
+
+
+@pytest.fixture(autouse=True)
+def as_asked(request):
+    """With --slurm what is run on a Slurm, and without it the rest."""
+    if request.config.getoption("--slurm") != (request.cls is TestOnSlurm):
+        pytest.skip("tests on a Slurm are run by hand, with --slurm, and alone")
+
+
+@pytest.fixture(scope="module")
+def whole(program):
+    """The tables that an undisturbed run on four jobs makes."""
+    room = Room(program)
+    try:
+        assert room.run() == 0, room.said()
+        tables = room.tables()
+        assert None not in tables.values()
+        return tables
+    finally:
+        room.remove()
+
+
 class Room:
     """A folder with the files of two stations, in which the workflow is run."""
 
-    program = None
-
-    def __init__(self):
+    def __init__(self, program):
+        self.program = program
         self.path = Path(tempfile.mkdtemp(prefix="workflow-"))
         self.out = self.path / "out"
         data = self.path / "data"
@@ -195,74 +217,68 @@ def steps_of(said):
     return sorted(re.findall(r"^(?:local)?rule (\w+):", said, re.MULTILINE))
 
 
-class Base(unittest.TestCase):
+class Base:
     """A room for each test, and the tables that an undisturbed run on four jobs makes."""
 
-    whole = None
-
-    def setUp(self):
-        self.room = Room()
-        self.addCleanup(self.room.remove)
-        if Base.whole is None:
-            self.assertEqual(self.room.run(), 0, self.room.said())
-            Base.whole = self.room.tables()
-            self.assertNotIn(None, Base.whole.values())
-            shutil.rmtree(self.room.out)
-            shutil.rmtree(self.room.path / ".snakemake")
+    @pytest.fixture(autouse=True)
+    def room_of_two_stations(self, program, whole, request):
+        self.whole, self.at_end = whole, request.addfinalizer
+        self.room = Room(program)
+        self.at_end(self.room.remove)
 
     def is_repaired(self, **ways):
         """The next run ends well and makes the tables of the undisturbed one; the run behind it has nothing to do."""
-        self.assertEqual(self.room.run(**ways), 0, self.room.said())
-        self.assertEqual(self.room.tables(), Base.whole)
-        self.assertEqual(list((self.room.out / "notes").glob("*/*/*.*")), [])
-        self.assertEqual(list((self.room.out / "tmp").glob("*")), [])
+        assert self.room.run(**ways) == 0, self.room.said()
+        assert self.room.tables() == self.whole
+        assert list((self.room.out / "notes").glob("*/*/*.*")) == []
+        assert list((self.room.out / "tmp").glob("*")) == []
 
     def has_nothing_to_do(self):
         """The next run does nothing."""
-        self.assertEqual(self.room.run(), 0, self.room.said())
-        self.assertIn("Nothing to be done", self.room.said())
+        assert self.room.run() == 0, self.room.said()
+        assert "Nothing to be done" in self.room.said()
 
 
-class Whole(Base):
+class TestWhole(Base):
     def test_one_job_and_four_make_the_same_tables_and_a_second_run_does_nothing(self):
         self.is_repaired(jobs=1)
         self.has_nothing_to_do()
         (self.room.out / "logs/UBX0/2008-05-26/2.log.zst").unlink()
         self.is_repaired()
         steps = ["all", "check", "compress", "database", "day", "page", "rows", "solve", "unpack"]
-        self.assertEqual(steps_of(self.room.said()), steps)
+        assert steps_of(self.room.said()) == steps
 
     def test_tables_have_what_the_logs_have(self):
         with tempfile.NamedTemporaryFile() as file:
-            Path(file.name).write_bytes(Base.whole["network.sqlite"])
+            Path(file.name).write_bytes(self.whole["network.sqlite"])
             base = sqlite3.connect(file.name)
             epochs = base.execute("SELECT station, part, epoch, satellites, mark FROM epochs").fetchall()
             # Two parts of two epochs each; the satellites of the first are 8 and 9, as the files have them.
             wanted = [(station, (k + 1) // 2, k) for station in ("GEON", "UBX0") for k in range(1, 5)]
-            self.assertEqual([row[:3] for row in epochs], wanted)
-            self.assertEqual({row[:1] + row[3:4] for row in epochs if row[2] == 1}, {("GEON", 8), ("UBX0", 9)})
+            assert [row[:3] for row in epochs] == wanted
+            assert {row[:1] + row[3:4] for row in epochs if row[2] == 1} == {("GEON", 8), ("UBX0", 9)}
             said = base.execute("SELECT name, verdict LIKE 'yes %' FROM files WHERE role = 'log'").fetchall()
-            self.assertEqual(said, [("--from 1 --to 2", 1), ("--from 3", 1)] * 2)
+            assert said == [("--from 1 --to 2", 1), ("--from 3", 1)] * 2
             base.close()
 
     def test_other_ways_of_a_configuration(self):
         config = self.room.configuration().replace("[2008-05-26]", "[2008-05-26, 2008-05-27]")
         config = config.replace("settings: data/single.toml", 'settings: data/single.toml, bounds: "single --zenith"')
         self.room.configure(config + "absent: leave\nkeep: checksum\n")
-        self.assertEqual(self.room.run(), 0, self.room.said())
-        self.assertIn("gpscover: UBX0 2008-05-27: no observation file, left out", self.room.said())
+        assert self.room.run() == 0, self.room.said()
+        assert "gpscover: UBX0 2008-05-27: no observation file, left out" in self.room.said()
         base = sqlite3.connect(self.room.out / "network.sqlite")
-        self.assertEqual(base.execute("SELECT * FROM absent").fetchall(), [("UBX0", "2008-05-27")])
+        assert base.execute("SELECT * FROM absent").fetchall() == [("UBX0", "2008-05-27")]
         base.close()
-        self.assertEqual(list((self.room.out / "logs").rglob("*.zst")), [])
+        assert list((self.room.out / "logs").rglob("*.zst")) == []
         self.has_nothing_to_do()
         text = (self.room.out / "settings/UBX0/2008-05-26.toml").read_text()
-        self.assertIn("centre = [-3869310000, 3436566000, 3717366000]\n", text)
-        self.assertIn("zenith = [1911, 2703]\n", text)
+        assert "centre = [-3869310000, 3436566000, 3717366000]\n" in text
+        assert "zenith = [1911, 2703]\n" in text
         # G26 stands 5.2 to 5.3 degrees high, as the example's settings say; all else of its bounds is by
         # elevation.
-        self.assertRegex(text, r"G26 = \[.*\]  # 5\.\d to 5\.\d degrees")
-        self.assertEqual(text.count("[bounds]"), 1)
+        assert re.search(r"G26 = \[.*\]  # 5\.\d to 5\.\d degrees", text)
+        assert text.count("[bounds]") == 1
 
     def test_a_wrong_configuration(self):
         config = self.room.configuration()
@@ -273,23 +289,23 @@ class Whole(Base):
             (config.replace("settings: data/single.toml, ", ""), "stations: UBX0 has no settings"),
         ):
             self.room.configure(wrong)
-            self.assertNotEqual(self.room.run(), 0)
-            self.assertIn(said, self.room.said())
+            assert self.room.run() != 0
+            assert said in self.room.said()
 
 
-class Killed(Base):
+class TestKilled(Base):
     def test_a_program_a_step_and_an_engine_that_are_killed(self):
         self.room.hold(PARTS[1])
         process = self.room.begin()
         os.kill(self.room.held(), signal.SIGKILL)
-        self.assertEqual(process.wait(LATEST), 1)
+        assert process.wait(LATEST) == 1
         self.is_told("GEON 2005-04-02 part 2: solve: solve: killed by signal 9, without a word")
 
         process = self.room.begin()
         program = self.room.held()
         os.kill(parent(program), signal.SIGKILL)
         os.kill(program, signal.SIGKILL)
-        self.assertEqual(process.wait(LATEST), 1)
+        assert process.wait(LATEST) == 1
         self.is_told("GEON 2005-04-02 part 2: solve: it didn't end: killed, or no room for a note?")
 
         process = self.room.begin()
@@ -299,27 +315,27 @@ class Killed(Base):
         if is_alive(program):
             os.kill(program, signal.SIGKILL)
         self.room.free()
-        self.assertEqual(self.room.run("--unlock"), 0, self.room.said())
+        assert self.room.run("--unlock") == 0, self.room.said()
         self.is_repaired()
-        self.assertEqual(steps_of(self.room.said()).count("solve"), 1)
+        assert steps_of(self.room.said()).count("solve") == 1
 
     def is_told(self, wanted):
         """One line is of the part, the other parts have verdicts, and the table of the other day is there."""
-        self.assertEqual(self.room.lines(), [wanted])
-        self.assertEqual(self.room.verdicts(), [part for part in PARTS if part != PARTS[1]])
-        self.assertEqual([name for name, table in self.room.tables().items() if table is not None], [TABLES[3]])
+        assert self.room.lines() == [wanted]
+        assert self.room.verdicts() == [part for part in PARTS if part != PARTS[1]]
+        assert [name for name, table in self.room.tables().items() if table is not None] == [TABLES[3]]
         (self.room.path / "held").unlink()
 
 
-class Changed(Base):
+class TestChanged(Base):
     def test_a_log_and_an_observation_that_are_changed(self):
-        self.assertEqual(self.room.run("--until", "solve", "--notemp"), 0, self.room.said())
+        assert self.room.run("--until", "solve", "--notemp") == 0, self.room.said()
         log = self.room.out / f"solved/{PARTS[1]}.log"
         text = log.read_text()
         place = text.index("\nroot ") + 6
         log.write_text(f"{text[:place]}1{text[place + 1:]}")  # the low end of x had a minus there
         self.is_refused(PARTS[1], r"check: the log isn't accepted: .*")
-        self.assertEqual(self.room.verdicts(), [part for part in PARTS if part != PARTS[1]])
+        assert self.room.verdicts() == [part for part in PARTS if part != PARTS[1]]
         self.is_repaired()
 
         log = self.room.out / f"logs/{PARTS[2]}.log.zst"
@@ -334,30 +350,30 @@ class Changed(Base):
         whole = path.read_bytes()
         text = gzip.decompress(whole).decode()
         path.write_bytes(gzip.compress(text.replace("G03  24767686.375", "G03  24767687.375").encode(), mtime=0))
-        self.assertEqual(self.room.run(), 0, self.room.said())
-        self.assertEqual(steps_of(self.room.said()).count("solve"), 2)
-        self.assertNotEqual(self.room.tables()["network.sqlite"], Base.whole["network.sqlite"])
+        assert self.room.run() == 0, self.room.said()
+        assert steps_of(self.room.said()).count("solve") == 2
+        assert self.room.tables()["network.sqlite"] != self.whole["network.sqlite"]
         path.write_bytes(whole)
         self.is_repaired()
 
     def is_refused(self, part, why, kind="log"):
         """The next run fails; one line is of this part, and its log is kept aside."""
-        self.assertEqual(self.room.run(), 1)
+        assert self.room.run() == 1
         (line,) = self.room.lines()
         name = part.replace("/", " ", 1).replace("/", " part ")
-        self.assertRegex(line, f"^{name}: {why}; it is kept as out/refused/{part}.{kind}$")
-        self.assertTrue((self.room.out / f"refused/{part}.{kind}").exists())
+        assert re.search(f"^{name}: {why}; it is kept as out/refused/{part}.{kind}$", line)
+        assert (self.room.out / f"refused/{part}.{kind}").exists()
 
 
-class Missing(Base):
+class TestMissing(Base):
     def test_a_navigation_day_and_the_program_that_undoes_hatanaka(self):
         path = self.room.path / "data/brdc2008147.nav"
         whole = path.read_bytes()
         path.unlink()
-        self.assertEqual(self.room.run(), 1)
+        assert self.room.run() == 1
         lines = [f"UBX0 2008-05-26 part {part}: unpack: data/brdc2008147.nav isn't there" for part in (1, 2)]
-        self.assertEqual(self.room.lines(), lines)
-        self.assertEqual(self.room.tables()[TABLES[2]], Base.whole[TABLES[2]])
+        assert self.room.lines() == lines
+        assert self.room.tables()[TABLES[2]] == self.whole[TABLES[2]]
         path.write_bytes(whole)
 
         path = self.room.path / "data/GEON2005092.obs.gz"
@@ -365,9 +381,9 @@ class Missing(Base):
         head = b"1.0                 COMPACT RINEX FORMAT                    CRINEX VERS   / TYPE\n"
         path.write_bytes(gzip.compress(head + gzip.decompress(whole), mtime=0))
         if shutil.which("crx2rnx") is None and shutil.which("CRX2RNX") is None:
-            self.assertEqual(self.room.run(), 1)
+            assert self.room.run() == 1
             why = "data/GEON2005092.obs.gz has Hatanaka's compression, and crx2rnx isn't on the path"
-            self.assertEqual([line.split(":")[1:3] for line in self.room.lines()], [[" unpack", f" {why}"]] * 2)
+            assert [line.split(":")[1:3] for line in self.room.lines()] == [[" unpack", f" {why}"]] * 2
         # In its place one that takes off the line above.
         tools = self.room.path / "tools"
         tools.mkdir()
@@ -375,40 +391,40 @@ class Missing(Base):
         (tools / "crx2rnx").chmod(0o755)
         before = os.environ["PATH"]
         os.environ["PATH"] = f"{tools}:{before}"
-        self.addCleanup(os.environ.__setitem__, "PATH", before)
-        self.assertEqual(self.room.run(), 0, self.room.said())
+        self.at_end(lambda: os.environ.__setitem__("PATH", before))
+        assert self.room.run() == 0, self.room.said()
         for name in TABLES[2:]:
-            self.assertEqual(self.room.tables()[name], Base.whole[name])
+            assert self.room.tables()[name] == self.whole[name]
         path.write_bytes(whole)
         self.is_repaired()
         path.unlink()  # it is put away when its day is done
         self.has_nothing_to_do()
 
 
-class FullDisk(Base):
+class TestFullDisk(Base):
     def test_a_full_disk(self):
         disk = self.room.out
         disk.mkdir()
         words = ["mount", "-t", "tmpfs", "-o", "size=192k", "workflow", str(disk)]
         if os.geteuid() != 0 or subprocess.run(words, capture_output=True).returncode != 0:
-            self.skipTest("only root can make a small disk")
-        self.addCleanup(subprocess.run, ["umount", str(disk)])
-        self.assertEqual(self.room.run(), 1)
+            pytest.skip("only root can make a small disk")
+        self.at_end(lambda: subprocess.run(["umount", str(disk)]))
+        assert self.room.run() == 1
         name = r"\w{4} \d{4}-\d\d-\d\d part \d"
-        self.assertRegex(self.room.said(), f"gpscover: {name}: solve: solve: status 5, log fault")
+        assert re.search(f"gpscover: {name}: solve: solve: status 5, log fault", self.room.said())
         for line in self.room.lines():
-            self.assertRegex(line, rf"^{name}: \w+: ")
-        self.assertLess(len(self.room.verdicts()), len(PARTS))
+            assert re.search(rf"^{name}: \w+: ", line)
+        assert len(self.room.verdicts()) < len(PARTS)
         subprocess.run(["mount", "-o", "remount,size=16m", str(disk)], check=True)
         self.is_repaired()
 
 
-class Made(unittest.TestCase):
-    def test_regions_of_a_made_network_hold_its_places(self):
+class TestMade:
+    def test_regions_of_a_made_network_hold_its_places(self, program):
         with tempfile.TemporaryDirectory() as path:
             folder = Path(path)
-            words = [sys.executable, HERE / "made_network.py", folder, "--epochs", "2"]
-            subprocess.run(words, check=True)
+            words = [sys.executable, "-m", "tools.made.made_network", folder, "--epochs", "2"]
+            subprocess.run(words, cwd=ROOT, check=True)
             text = (folder / "settings.toml").read_text()
             for packed in sorted(folder.glob("*.obs.gz")):
                 station, day = packed.name[:4], packed.name[4:11]
@@ -417,10 +433,10 @@ class Made(unittest.TestCase):
                 for source, name in (packed, "obs"), (folder / f"BRDC{day}.nav.gz", "nav"):
                     (folder / name).write_bytes(gzip.decompress(source.read_bytes()))
                 files = [folder / name for name in ("obs", "nav", "set.toml", "log")]
-                subprocess.run([Room.program, "solve", *files], check=True, stdout=subprocess.DEVNULL)
-                found = list(coverlog.epochs(folder / "log"))
+                subprocess.run([program, "solve", *files], check=True, stdout=subprocess.DEVNULL)
+                found = list(epochs_of(folder / "log"))
                 held = [self.holds(epoch, [at * 1000 for at in place]) for epoch in found]
-                self.assertEqual(held, [True, True], f"{station} {day}")
+                assert held == [True, True], f"{station} {day}"
 
     def holds(self, epoch, place):
         """Whether a box of the epoch has the place in um."""
@@ -435,10 +451,10 @@ def variable(pid, name):
     return next(pair.split("=", 1)[1] for pair in pairs if pair.startswith(f"{name}="))
 
 
-class OnSlurm(Base):
-    def setUp(self):
-        super().setUp()
-        os.environ["CI"] = "true"  # Snakemake then asks once a second how jobs are, in place of every ten
+class TestOnSlurm(Base):
+    @pytest.fixture(autouse=True)
+    def quick_questions(self, monkeypatch):
+        monkeypatch.setenv("CI", "true")  # Snakemake then asks once a second how jobs are, in place of every ten
 
     def run_with(self, part, disturb):
         """Begins a run on Slurm, disturbs it while a part's program waits, lets it go on, and waits for its end."""
@@ -470,13 +486,13 @@ class OnSlurm(Base):
             for part in PARTS:
                 if part != PARTS[0]:
                     self.room.wait_for(self.room.out / f"verdicts/{part}.json")
-            self.assertNotIn(PARTS[0], self.room.verdicts())
+            assert PARTS[0] not in self.room.verdicts()
             self.room.free()
 
         # What works on the node ends there, and all else is done by the other one.
         process = self.run_with(PARTS[0], disturb)
-        self.assertEqual(process.wait(3 * LATEST), 0, self.room.said())
-        self.assertEqual(self.room.tables(), Base.whole)
+        assert process.wait(3 * LATEST) == 0, self.room.said()
+        assert self.room.tables() == self.whole
         self.set_state(nodes[0], "resume")
 
     def test_a_node_that_is_lost_while_it_works(self):
@@ -488,8 +504,8 @@ class OnSlurm(Base):
             self.set_state(nodes[0], "down")
 
         process = self.run_with(PARTS[1], disturb)
-        self.assertEqual(process.wait(3 * LATEST), 0, self.room.said())
-        self.assertEqual(self.room.tables(), Base.whole)
+        assert process.wait(3 * LATEST) == 0, self.room.said()
+        assert self.room.tables() == self.whole
         self.set_state(nodes[0], "resume")
 
     def test_a_job_that_is_cancelled_twice(self):
@@ -499,21 +515,9 @@ class OnSlurm(Base):
             program = self.room.held()
             (self.room.path / "held").unlink()
             subprocess.run(["scancel", variable(program, "SLURM_JOB_ID")], check=True)
-        self.assertEqual(process.wait(3 * LATEST), 1)
+        assert process.wait(3 * LATEST) == 1
         (line,) = self.room.lines()
-        self.assertRegex(line, "^UBX0 2008-05-26 part 2: solve: ")
-        self.assertEqual(self.room.verdicts(), list(PARTS[:3]))
+        assert re.search("^UBX0 2008-05-26 part 2: solve: ", line)
+        assert self.room.verdicts() == list(PARTS[:3])
         (self.room.path / "hold").unlink()
         self.is_repaired(profile="slurm", jobs=8)
-
-
-def main(program, slurm):
-    Room.program = os.path.abspath(program)
-    classes = (OnSlurm,) if slurm else (Whole, Killed, Changed, Missing, FullDisk, Made)
-    return testing.run("workflow", classes, verbosity=2)
-
-
-if __name__ == "__main__":
-    if len(sys.argv) not in (2, 3) or sys.argv[2:] not in ([], ["--slurm"]):
-        sys.exit(__doc__)
-    sys.exit(main(sys.argv[1], "--slurm" in sys.argv))

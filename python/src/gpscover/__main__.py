@@ -1,0 +1,5 @@
+"""`python3 -m gpscover` is `gpslog`."""
+
+from gpscover.cli import main
+
+main()

@@ -1,0 +1,314 @@
+"""Puts the evidence of a run together in one folder, and checks a bundle that somebody else made.
+
+usage: gpslog evidence make FOLDER OBS NAV SETTINGS LOG [--track] [--from N] [--to N] [--program
+GPSCOVER]
+       gpslog evidence check FOLDER [--sha256 HEX] [--other-program] [--program GPSCOVER]
+
+`make` copies the four files into a new FOLDER, has both checkers test the log, GPSCOVER (the
+program that ./gpscover runs) and second/recheck.py, and writes FOLDER/evidence.txt: the sizes and
+checksums of the files and of both checkers, the versions, the options, both verdicts, and how many
+epochs the observations have, and of these are in the log, paved, few, empty, reach the search box,
+or are left out, which are those that the log doesn't have. --from and --to are those that the log
+was solved with. --track says that it is one of `track`: it is checked as one, by `retrack` and by
+recheck.py --track, and where it ends with an epoch that keeps no box this one is named. Where not
+both checkers say yes, of as many boxes, there is no evidence: nothing is left, and the verdicts are
+printed. The checksum of evidence.txt, which is printed last, is what is signed or sent by another
+way.
+
+`check` makes all of this anew from the four files and tells each line of evidence.txt that is
+another, each file that is missing and each that doesn't belong there. Where anything in FOLDER
+isn't a file of its own, but a link, a folder or a device, nothing of it is read. --sha256 compares
+the checksum of evidence.txt too. Where the checkers or the versions here are others, that is told
+as well; with --other-program only what they say has to be the same.
+
+docs/CERTIFIER.md says what such a bundle shows and what it doesn't.
+
+Exit status: 0; 1 where a file can't be read or written, a verdict isn't yes, or the bundle differs;
+2 for a wrong command line.
+"""
+
+from __future__ import annotations
+
+import argparse
+import contextlib
+import hashlib
+import re
+import shutil
+import stat
+import subprocess
+import sys
+from collections import Counter
+from collections.abc import Iterator, Sequence
+from dataclasses import dataclass
+from pathlib import Path
+
+from gpscover.command import Command
+from gpscover.errors import Error
+from gpscover.log import PathLike, epochs
+from gpscover.observations import file_epochs
+from gpscover.program import home, own_program
+from gpscover.region import reaches
+
+Lines = list[tuple[str, str]]  # name, and what is found
+
+SECOND = "second/recheck.py"  # from the top of the repository
+SHEET = "evidence.txt"
+FILES = {
+    "obs": "receiver.obs",
+    "nav": "receiver.nav",
+    "settings": "settings.toml",
+    "log": "receiver.log",
+}
+HEAD = "gpscover evidence 1"
+ITSELF = ("program", "second", "version")  # the lines that say who checked
+GREATEST = 200_000  # the greatest epoch number
+OPTIONS = re.compile(r"(--track )?--from ([1-9]\d{0,5}) --to ([1-9]\d{0,5})", re.ASCII)
+
+
+@dataclass
+class Options:
+    """What a log was made with: its first and its last epoch, and whether it is one of `track`."""
+
+    first: int
+    last: int
+    track: bool = False
+
+    def command(self) -> str:
+        """The program's command that checks it."""
+        return "retrack" if self.track else "check"
+
+    def track_words(self) -> list[str]:
+        """The word, if any, by which the sheet and the second checker are told that it is one of
+        `track`."""
+        return ["--track"] if self.track else []
+
+    def epochs(self) -> list[str]:
+        """The words that select the epochs, for both checkers."""
+        return ["--from", str(self.first), "--to", str(self.last)]
+
+
+def checksum(path: PathLike) -> str:
+    """The SHA-256 of a file, in hexadecimal digits."""
+    digest = hashlib.sha256()
+    with open(path, "rb") as file:
+        while part := file.read(1 << 20):
+            digest.update(part)
+    return digest.hexdigest()
+
+
+def identity(path: PathLike) -> str:
+    """The size of a file in bytes and its checksum."""
+    try:
+        return f"{Path(path).stat().st_size} bytes sha256 {checksum(path)}"
+    except OSError as error:
+        return f"can't be read: {error.strerror}"
+
+
+def version(program: str) -> str:
+    """The lines of `./gpscover --version`, the last of which is of the program that it runs: by
+    what it was proved and built."""
+    ran = subprocess.run([str(home() / "gpscover"), "--version"], capture_output=True, text=True)
+    *lines, own = ran.stdout.splitlines()
+    with contextlib.suppress(OSError):
+        if f"SHA-256 {checksum(program)}, " in own:
+            return ", ".join([*lines, own.partition(", ")[2]])
+    return ", ".join([*lines, "another program"])
+
+
+def verdict(words: list[str]) -> str:
+    """What a checker says, or how it ended."""
+    try:
+        ran = subprocess.run(words, stdin=subprocess.DEVNULL, capture_output=True, text=True)
+    except OSError as error:
+        return f"can't be run: {error.strerror}"
+    said = " ".join((ran.stdout + ran.stderr).split("\n")).strip()
+    return said if ran.returncode in (0, 1) else f"status {ran.returncode}: {said}"
+
+
+def counts(folder: Path, options: Options) -> str:
+    """What the log says of the epochs of the file, in one line."""
+    marks: Counter[str] = Counter()
+    ended = ""
+    try:
+        total = file_epochs(folder / FILES["obs"])
+        for epoch in epochs(folder / FILES["log"]):
+            marks["few" if epoch.few else "paved"] += 1
+            marks["empty"] += epoch.empty
+            marks["reach"] += reaches(epoch)
+            if epoch.empty and options.track:
+                ended = f"; the track ends with epoch {epoch.index}, which keeps no box"
+    except (Error, OSError, ValueError) as error:
+        return f"can't be counted: {error}".replace(str(folder) + "/", "")
+    there = marks["few"] + marks["paved"]
+    return (
+        f"{total} in the file, {there} in the log: {marks['paved']} paved, {marks['few']} few,"
+        f" {marks['empty']} empty, {marks['reach']} reach the search box; {total - there} left"
+        f" out{ended}"
+    )
+
+
+def made(folder: Path, program: str, second: Path, options: Options) -> Lines:
+    """The lines of the evidence in order."""
+    files = [str(folder / name) for name in FILES.values()]
+    command, chosen = options.command(), options.epochs()
+    again = [sys.executable, str(second), *options.track_words(), *files, *chosen]
+    return [
+        *((role, f"{name} {identity(folder / name)}") for role, name in FILES.items()),
+        ("program", identity(program)),
+        ("second", identity(second)),
+        ("version", version(program)),
+        ("options", " ".join(options.track_words() + chosen)),
+        (command, verdict([program, command, *files, *chosen])),
+        ("recheck", verdict(again)),
+        ("epochs", counts(folder, options)),
+    ]
+
+
+def sheet(lines: Lines) -> str:
+    """The text of the evidence."""
+    return "".join(f"{line}\n" for line in [HEAD, *(f"{name} {found}" for name, found in lines)])
+
+
+def dissent(said: dict[str, str], command: str) -> str:
+    """What both checkers say where it isn't the same yes, or an empty text."""
+    if said[command].startswith("yes ") and said["recheck"] == said[command]:
+        return ""
+    return f"{command} says {said[command]}, recheck says {said['recheck']}"
+
+
+def run_make(args: argparse.Namespace) -> None:
+    """Makes a bundle."""
+    folder, options = Path(args.bundle), Options(args.first, args.last, args.track)
+    program = str(args.program or own_program())
+    folder.mkdir()
+    try:
+        lines = fill(
+            folder, (args.obs, args.nav, args.settings, args.log), program, home() / SECOND, options
+        )
+    except BaseException:
+        shutil.rmtree(folder)
+        raise
+    print(sheet(lines), end="")
+    print(f"{SHEET} sha256 {checksum(folder / SHEET)}")
+
+
+def fill(
+    folder: Path, paths: Sequence[PathLike], program: str, second: Path, options: Options
+) -> Lines:
+    """Puts the files of a bundle and its evidence into a folder. The evidence's lines."""
+    for path, name in zip(paths, FILES.values()):
+        shutil.copyfile(path, folder / name)
+    lines = made(folder, program, second, options)
+    if told := dissent(dict(lines), options.command()):
+        raise Error(f"no evidence: {told}")
+    (folder / SHEET).write_text(sheet(lines), encoding="utf-8", newline="\n")
+    return lines
+
+
+def read_sheet(folder: Path) -> tuple[Lines, Options]:
+    """What evidence.txt says: (name, what was found) in order, and the options."""
+    lines = (folder / SHEET).read_text(encoding="utf-8", errors="replace").splitlines()
+    parts = (line.partition(" ") for line in lines[1:])
+    said = [(name, told) for name, _, told in parts]
+    found = OPTIONS.fullmatch(dict(said).get("options", ""))
+    if lines[:1] != [HEAD] or not found or max(map(int, found.groups()[1:])) > GREATEST:
+        raise Error(f"{folder / SHEET}: this isn't evidence of gpscover, or it was changed")
+    track, first, last = found.groups()
+    return said, Options(int(first), int(last), bool(track))
+
+
+def differences(said: Lines, found: Lines, is_other: bool) -> Iterator[str]:
+    """What evidence.txt says otherwise than what is found, a line each."""
+    if [name for name, _ in said] != [name for name, _ in found]:
+        yield f"the lines of {SHEET} aren't those of evidence: {' '.join(name for name, _ in said)}"
+    was = dict(said)
+    for name, value in found:
+        if was.get(name) != value and not (is_other and name in ITSELF):
+            yield f"{name}: the bundle says {was.get(name, 'nothing')}; here it is {value}"
+
+
+def refuse_links(folder: Path) -> None:
+    """Error where anything in a bundle isn't a file of its own: it could be read from elsewhere, or
+    never end."""
+    for path in sorted(folder.iterdir()):
+        if not stat.S_ISREG(path.lstat().st_mode):
+            raise Error(
+                f"{path} isn't a file of the bundle's own, but a link, a folder or a device"
+            )
+
+
+def strangers(folder: Path) -> Iterator[str]:
+    """The files of a bundle that are missing, and those that don't belong there."""
+    wanted, there = {*FILES.values(), SHEET}, {path.name for path in folder.iterdir()}
+    yield from (f"{name} is missing" for name in sorted(wanted - there))
+    yield from (f"{name} doesn't belong to the bundle" for name in sorted(there - wanted))
+
+
+def run_check(args: argparse.Namespace) -> None:
+    """Checks a bundle."""
+    folder = Path(args.bundle)
+    refuse_links(folder)
+    said, options = read_sheet(folder)
+    found = made(folder, str(args.program or own_program()), home() / SECOND, options)
+    told = [*strangers(folder), *differences(said, found, args.other_program)]
+    if args.sha256 not in (None, checksum(folder / SHEET)):
+        told.append(f"{SHEET} has the checksum {checksum(folder / SHEET)}")
+    now = dict(found)
+    if others := dissent(now, options.command()):
+        told.append(f"the checkers don't both say yes: {others}")
+    if told:
+        raise Error("the bundle differs\n" + "\n".join(told))
+    print(f"the bundle is as it says: {now['recheck']} of both checkers; {now['epochs']}")
+
+
+def epoch_number(text: str) -> int:
+    """A number of an epoch among the words."""
+    if not text.isdecimal() or not 1 <= int(text) <= GREATEST:
+        raise argparse.ArgumentTypeError(f"{text} isn't a number from 1 to {GREATEST}")
+    return int(text)
+
+
+def arguments(parser: argparse.ArgumentParser) -> None:
+    """The words of the command line."""
+    ways = parser.add_subparsers(required=True)
+    make = ways.add_parser(
+        "make", help="copy the files, check the log twice, and write what was found"
+    )
+    check = ways.add_parser("check", help="find all of it anew and compare")
+    for way, work in ((make, run_make), (check, run_check)):
+        way.add_argument("bundle", metavar="FOLDER")
+        way.add_argument("--program", help="the program (the one that ./gpscover runs)")
+        way.set_defaults(work=work)
+    for name in ("obs", "nav", "settings", "log"):
+        make.add_argument(name, metavar=name.upper())
+    make.add_argument("--track", action="store_true", help="the log is one of `track`")
+    make.add_argument(
+        "--from",
+        dest="first",
+        type=epoch_number,
+        default=1,
+        metavar="N",
+        help="the log's first epoch (1)",
+    )
+    make.add_argument(
+        "--to",
+        dest="last",
+        type=epoch_number,
+        default=GREATEST,
+        metavar="N",
+        help=f"its last one ({GREATEST})",
+    )
+    check.add_argument("--sha256", metavar="HEX", help=f"the checksum that {SHEET} has to have")
+    check.add_argument(
+        "--other-program", action="store_true", help="let the checkers and versions here be others"
+    )
+
+
+def run(args: argparse.Namespace) -> int:
+    """Does the work of the way that the words named. The status."""
+    args.work(args)
+    return 0
+
+
+ABOUT = "evidence of a run: makes a bundle, or checks one"
+COMMAND = Command("evidence", ABOUT, arguments, run, __doc__)

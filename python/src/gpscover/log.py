@@ -1,0 +1,566 @@
+"""Reads a log of gpscover epoch by epoch and folds its steps into the boxes that they close.
+
+    from gpscover import open_log
+
+    for epoch in open_log("receiver.log"):
+        print(epoch.index, epoch.time, epoch.satellites, len(epoch.kept), "boxes")
+        for kept in epoch.kept:
+            print(kept.box.low, kept.box.high, kept.inner, kept.clock.to_metres())
+
+Lengths are whole micrometres (um), as in the log. Times are picoseconds (ps) since 1980-01-06
+00:00:00 GPS time. A log is read one epoch after the other, and none is kept, so a long one needs
+little memory. It is read as it stands: whether it is right is what `gpscover check` says.
+"""
+
+from __future__ import annotations
+
+import datetime
+import os
+import re
+from collections.abc import Iterator
+from dataclasses import dataclass, field
+from enum import Enum
+from typing import TYPE_CHECKING, NamedTuple, TextIO
+
+from gpscover.errors import LogError
+
+if TYPE_CHECKING:
+    import pandas
+
+__all__ = [
+    "Box",
+    "Epoch",
+    "Interval",
+    "Kept",
+    "Log",
+    "PS_PER_MS",
+    "PathLike",
+    "Point",
+    "Renewal",
+    "Row",
+    "Rules",
+    "Skip",
+    "SkipReason",
+    "UM_PER_M",
+    "calendar",
+    "epochs",
+    "gps_time",
+    "open_log",
+    "rules_of",
+]
+
+PathLike = str | os.PathLike[str]
+Point = tuple[float, float, float]
+
+UM_PER_M = 1_000_000
+PS_PER_MS = 1_000_000_000
+PS_PER_US = 1_000_000
+GPS_EPOCH = datetime.datetime(1980, 1, 6)
+
+# The first line of a log. By the third one, pairs of satellites may show a box empty too. Behind
+# all but the first one rows may be renewed.
+HEADS = "gpscover 1", "gpscover 2", "gpscover 3"
+LATEST_PS = 4 * 10**21  # times of a log lie before it
+LONGEST = 24  # characters of a number of a log, few enough to be a floating-point number too
+SATELLITE = re.compile("[GE][0-9]{2}")
+CLOSING = {"out": 1, "edge": 3, "in": 4}  # lines that close a box, and how many numbers each has
+
+
+class SkipReason(str, Enum):
+    """Why a satellite isn't used. The value is the reason's number in a log."""
+
+    NO_CODE = "1"
+    CODE_OUT_OF_RANGE = "2"
+    NO_EPHEMERIS = "3"
+    NOT_HEALTHY = "4"
+    NOT_NEAR_IN_TIME = "5"
+    EPHEMERIS_OUT_OF_BOUNDS = "6"
+    NEAR_EARTH_CENTRE = "7"
+
+    @property
+    def words(self) -> str:
+        """The reason as a part of a sentence."""
+        return SKIP_WORDS[self]
+
+
+SKIP_WORDS = {
+    SkipReason.NO_CODE: "a wanted code is missing",
+    SkipReason.CODE_OUT_OF_RANGE: "a code is out of range",
+    SkipReason.NO_EPHEMERIS: "it has no ephemeris",
+    SkipReason.NOT_HEALTHY: "none of its ephemerides is healthy",
+    SkipReason.NOT_NEAR_IN_TIME: "none of its ephemerides is near enough in time",
+    SkipReason.EPHEMERIS_OUT_OF_BOUNDS: "its ephemeris is out of bounds",
+    SkipReason.NEAR_EARTH_CENTRE: "the search box comes too near to the earth's centre",
+}
+
+
+class Interval(NamedTuple):
+    """All numbers from `low` to `high`, both included; in um."""
+
+    low: int
+    high: int
+
+    @property
+    def width(self) -> int:
+        """How far it reaches."""
+        return self.high - self.low
+
+    def to_metres(self) -> tuple[float, float]:
+        """Both ends in metres."""
+        return self.low / UM_PER_M, self.high / UM_PER_M
+
+
+class Box(NamedTuple):
+    """A box in the earth-fixed frame, in um. Its ends belong to it."""
+
+    x_low: int
+    y_low: int
+    z_low: int
+    x_high: int
+    y_high: int
+    z_high: int
+
+    @property
+    def low(self) -> tuple[int, int, int]:
+        """The low corner x, y, z in um."""
+        return self[:3]
+
+    @property
+    def high(self) -> tuple[int, int, int]:
+        """The high corner x, y, z in um."""
+        return self[3:]
+
+    @property
+    def centre(self) -> Point:
+        """The middle x, y, z in metres."""
+        x, y, z = ((low + high) / (2 * UM_PER_M) for low, high in zip(self.low, self.high))
+        return x, y, z
+
+    @property
+    def sides(self) -> Point:
+        """The lengths along x, y and z in metres."""
+        x, y, z = ((high - low) / UM_PER_M for low, high in zip(self.low, self.high))
+        return x, y, z
+
+    @property
+    def volume(self) -> float:
+        """The volume in cubic metres."""
+        x, y, z = self.sides
+        return x * y * z
+
+    def contains(self, point: Point) -> bool:
+        """Whether a point x, y, z in metres, taken to the nearest um, lies in it."""
+        x, y, z = (round(part * UM_PER_M) for part in point)
+        return (
+            self.x_low <= x <= self.x_high
+            and self.y_low <= y <= self.y_high
+            and self.z_low <= z <= self.z_high
+        )
+
+    def to_metres(self) -> tuple[Point, Point]:
+        """The low and the high corner in metres."""
+        a, b, c, d, e, f = (end / UM_PER_M for end in self)
+        return (a, b, c), (d, e, f)
+
+
+class Skip(NamedTuple):
+    """A satellite that isn't used, why, and the number of the ephemeris' field or an empty text."""
+
+    satellite: str
+    reason: SkipReason
+    field: str
+
+
+class Rules(NamedTuple):
+    """The rules of a log: q, the most splits of an epoch, and the width in um of the least box."""
+
+    outliers: int
+    splits: int
+    width: int
+
+
+@dataclass(slots=True)
+class Row:
+    """A usable satellite's spans in um: of its place, corrected pseudorange and declared error."""
+
+    satellite: str
+    place: tuple[Interval, Interval, Interval]  # x, y, z
+    range: Interval
+    error: Interval  # the widest one that is declared at a point of the row's box
+    sure: Interval  # what is declared at every point, whose low end may be above the high one
+
+
+@dataclass(slots=True)
+class Renewal:
+    """Rows formed anew over a box that holds all live boxes; in use from there on."""
+
+    steps: int  # how many steps stand before it
+    box: Box
+    rows: list[Row]  # of the same satellites as the epoch's first rows, in the same order
+
+
+@dataclass(slots=True)
+class Kept:
+    """An `in` or `edge` box and its span of clock offsets in um.
+
+    Each point of an inner box fits, of others it may.
+    """
+
+    box: Box
+    inner: bool
+    clock: Interval
+    rows: list[Row]  # those in use where it was closed: the epoch's own list, or a renewal's
+
+
+@dataclass(slots=True)
+class Epoch:
+    """A block of a log. A few block has no rows, no root and no boxes; one without is empty.
+
+    index       the epoch's number in the observation file
+    ps          its time of reception by the receiver's clock, in ps; `time` is the same as a date
+    satellites  how many are usable
+    few         whether these are too few, so that the epoch isn't paved
+    outliers    how many of them may break their bounds
+    rows        what the log has of each usable satellite over the search box
+    renewals    where it has rows over a smaller box
+    skips       what it has of the satellites that aren't used
+    root        the search box, or None
+    search      in a log of `track` the search box of the first epoch, which is that of the
+                settings; else the root
+    moves       whether the log is one of `track`, as far as the search boxes up to here tell
+    kept        the boxes where a position may fit
+    outs        how many `out` lines there are
+    splits      how many boxes were split
+    """
+
+    index: int
+    ps: int
+    satellites: int
+    few: bool
+    outliers: int
+    rows: list[Row] = field(default_factory=list)
+    renewals: list[Renewal] = field(default_factory=list)
+    skips: list[Skip] = field(default_factory=list)
+    root: Box | None = None
+    search: Box | None = None
+    moves: bool = False
+    kept: list[Kept] = field(default_factory=list)
+    outs: int = 0
+    splits: int = 0
+
+    @property
+    def time(self) -> datetime.datetime:
+        """The time of reception in GPS time, to the nearest microsecond, without a zone."""
+        return gps_time(self.ps)
+
+    @property
+    def boxes(self) -> list[Box]:
+        """The boxes where a position may fit."""
+        return [kept.box for kept in self.kept]
+
+    @property
+    def empty(self) -> bool:
+        """Whether it is paved and no position fits."""
+        return not self.few and not self.kept
+
+
+def gps_time(ps: int) -> datetime.datetime:
+    """A time in ps as a date in GPS time without a zone, to the nearest microsecond."""
+    return GPS_EPOCH + datetime.timedelta(microseconds=(ps + PS_PER_US // 2) // PS_PER_US)
+
+
+def calendar(ps: int) -> str:
+    """A time in ps as date and time of day in GPS time, to the nearest millisecond."""
+    ms = datetime.timedelta(milliseconds=(ps + PS_PER_MS // 2) // PS_PER_MS)
+    return (GPS_EPOCH + ms).isoformat(sep=" ", timespec="milliseconds")
+
+
+# ---- lines
+
+
+def whole(word: str) -> int:
+    """A whole number of a log."""
+    if len(word) > LONGEST:
+        raise ValueError
+    return int(word)
+
+
+def wholes(words: list[str], count: int) -> tuple[int, ...]:
+    """So many whole numbers of a log."""
+    if len(words) != count:
+        raise ValueError
+    return tuple(map(whole, words))
+
+
+def box_of(ends: tuple[int, ...] | list[int]) -> Box:
+    """A box of its low and its high corner. None has a low end above the high one."""
+    box = Box._make(ends)
+    if box.x_low > box.x_high or box.y_low > box.y_high or box.z_low > box.z_high:
+        raise ValueError
+    return box
+
+
+def satellite_of(word: str) -> str:
+    """The name of a satellite."""
+    if not SATELLITE.fullmatch(word):
+        raise ValueError
+    return word
+
+
+def row_of(words: list[str]) -> Row:
+    """The row of a `sat` line. On one without a last pair the error is the same at every point."""
+    ends = [whole(word) for word in words[2:]]
+    pairs = [Interval(*pair) for pair in zip(ends[::2], ends[1::2], strict=True)]
+    if words[0] != "sat" or len(pairs) not in (5, 6):
+        raise ValueError
+    place = (pairs[0], pairs[1], pairs[2])
+    return Row(satellite_of(words[1]), place, pairs[3], pairs[4], pairs[-1])
+
+
+def skip_of(words: list[str]) -> Skip:
+    """What a `skip` line says."""
+    if len(words) > 4:
+        raise ValueError
+    reason = SkipReason(words[2])
+    return Skip(satellite_of(words[1]), reason, words[3] if len(words) > 3 else "")
+
+
+def next_words(lines: Iterator[str]) -> list[str]:
+    """The words of the next line, which there has to be."""
+    line = next(lines, None)
+    if line is None:
+        raise EOFError
+    return line.split(" ")
+
+
+# ---- epochs
+
+
+class Fold:
+    """The steps of an epoch as they come, with the live boxes and the rows that are in use."""
+
+    def __init__(self, epoch: Epoch, root: Box) -> None:
+        self.epoch, self.rows = epoch, epoch.rows
+        self.live: dict[int, list[int]] = {0: list(root)}
+        self.following, self.steps = 1, 0
+
+    def close(self, words: list[str]) -> None:
+        """Closes a box by an `in`, `edge` or `out` line."""
+        numbers = wholes(words[1:], CLOSING[words[0]])
+        box = self.live.pop(numbers[0])
+        if words[0] == "out":
+            self.epoch.outs += 1
+        else:
+            clock = Interval(*numbers[-2:])
+            self.epoch.kept.append(Kept(box_of(box), words[0] == "in", clock, self.rows))
+
+    def halve(self, identity: int, axis: int) -> None:
+        """Puts the two halves of a box into the live boxes, under the next two numbers."""
+        if not 0 <= axis < 3:
+            raise ValueError
+        low = self.live.pop(identity)
+        high = list(low)
+        middle = (low[axis] + low[axis + 3]) // 2
+        low[axis + 3], high[axis] = middle, middle + 1
+        self.live[self.following], self.live[self.following + 1] = low, high
+        self.following += 2
+
+    def cut(self, identity: int, face: int, bound: int) -> None:
+        """Gives a box a new end at one of its faces."""
+        if not 0 <= face < 6:
+            raise ValueError
+        axis, is_high = divmod(face, 2)
+        self.live[identity][axis + 3 * is_high] = bound
+
+    def step(self, words: list[str]) -> None:
+        """Takes a step."""
+        if words[0] == "split":
+            identity, axis = wholes(words[1:], 2)
+            self.halve(identity, axis)
+        elif words[0] in CLOSING:
+            self.close(words)
+        elif words[0] == "cut":
+            identity, face, bound = wholes(words[1:], 3)
+            self.cut(identity, face, bound)
+        else:
+            raise ValueError
+        self.steps += 1
+
+    def renew(self, words: list[str], lines: Iterator[str]) -> None:
+        """Takes the box of a `renew` line and the rows behind it, one a usable satellite."""
+        box = box_of(wholes(words[1:], 6))
+        self.rows = [row_of(next_words(lines)) for _ in range(self.epoch.satellites)]
+        self.epoch.renewals.append(Renewal(self.steps, box, self.rows))
+
+
+def fold_steps(epoch: Epoch, root: Box, lines: Iterator[str], renews: bool) -> None:
+    """Takes the lines behind `root` up to `done`. Rows may be renewed where `renews` says so."""
+    fold = Fold(epoch, root)
+    for line in lines:
+        words = line.split(" ")
+        if words[0] == "done":
+            (epoch.splits,) = wholes(words[1:], 1)
+            return
+        if words[0] == "renew" and renews:
+            fold.renew(words, lines)
+        else:
+            fold.step(words)
+    raise EOFError
+
+
+def read_block(
+    words: list[str], outliers: int, lines: Iterator[str], renews: bool
+) -> tuple[Epoch, str | None]:
+    """The epoch that a first line begins, and the line behind it, which is None at the end."""
+    index, ps, satellites = wholes(words[1:], 3)
+    if not 0 <= ps < LATEST_PS:
+        raise ValueError
+    epoch = Epoch(index, ps, satellites, words[0] == "few", outliers)
+    for line in lines:
+        words = line.split(" ")
+        if words[0] == "sat" and not epoch.few:
+            epoch.rows.append(row_of(words))
+        elif words[0] == "skip":
+            epoch.skips.append(skip_of(words))
+        elif words[0] == "root" and not epoch.few:
+            epoch.root = box_of(wholes(words[1:], 6))
+            fold_steps(epoch, epoch.root, lines, renews)
+            return epoch, next(lines, None)
+        elif epoch.few:
+            return epoch, line
+        else:
+            raise ValueError
+    if not epoch.few:
+        raise EOFError
+    return epoch, None
+
+
+class Searches:
+    """The search boxes of a log's epochs.
+
+    Where they lie in the first one and differ from it, the log is one of `track`.
+    """
+
+    def __init__(self) -> None:
+        self.first: Box | None = None
+        self.moved = False
+
+    def add(self, epoch: Epoch) -> None:
+        """Tells an epoch with a search box what it is in the log."""
+        root = epoch.root
+        if root is None:
+            return
+        first = self.first = self.first or root
+        within = all(a <= b for a, b in zip(first.low, root.low)) and all(
+            a >= b for a, b in zip(first.high, root.high)
+        )
+        epoch.search = first if within else root
+        self.moved = self.moved or epoch.search != root
+        epoch.moves = self.moved
+
+
+def blocks(lines: Iterator[str]) -> Iterator[Epoch]:
+    """The epochs of a log's lines."""
+    head = next(lines, None)
+    if head not in HEADS:
+        raise ValueError
+    rules = next(lines, "").split(" ")
+    if rules[0] != "rules":
+        raise ValueError
+    line, searches, renews = next(lines, None), Searches(), head != HEADS[0]
+    while line is not None:
+        words = line.split(" ")
+        if words[0] not in ("epoch", "few"):
+            raise ValueError
+        epoch, line = read_block(words, whole(rules[1]), lines, renews)
+        searches.add(epoch)
+        yield epoch
+
+
+class Numbered:
+    """The lines of a file without LF, counted. A last line that lacks its LF ends the file."""
+
+    def __init__(self, file: TextIO) -> None:
+        self.file, self.count = file, 0
+
+    def __iter__(self) -> Iterator[str]:
+        return self
+
+    def __next__(self) -> str:
+        line = next(self.file)
+        self.count += 1
+        if not line.endswith("\n"):
+            raise EOFError
+        return line[:-1]
+
+
+def open_text(path: PathLike) -> TextIO:
+    """The text of a log."""
+    return open(path, encoding="ascii", errors="replace", newline="\n")
+
+
+def epochs(path: PathLike) -> Iterator[Epoch]:
+    """The epochs of the log at `path`, in order.
+
+    LogError where it isn't a log, or ends within an epoch.
+    """
+    with open_text(path) as file:
+        lines = Numbered(file)
+        try:
+            yield from blocks(lines)
+        except EOFError:
+            where = f"{path} ends within an epoch, at line {lines.count}"
+            raise LogError(f"{where}: its run was ended early") from None
+        except (ValueError, IndexError, KeyError, TypeError):
+            raise LogError(f"{path} line {lines.count}: this isn't a log of gpscover") from None
+
+
+def rules_of(path: PathLike) -> Rules:
+    """The rules of the log at `path`. LogError where it isn't a log."""
+    with open_text(path) as file:
+        head, words = file.readline(), file.readline().split()
+    is_head = head.endswith("\n") and head[:-1] in HEADS
+    try:
+        if not is_head or words[0] != "rules":
+            raise ValueError
+        return Rules._make(wholes(words[1:], 3))
+    except (ValueError, IndexError):
+        number = 2 if is_head else 1
+        raise LogError(f"{path} line {number}: this isn't a log of gpscover") from None
+
+
+class Log:
+    """A log at a path. Each time that it is iterated its epochs are read anew."""
+
+    def __init__(self, path: PathLike) -> None:
+        self.path = path
+        self.rules = rules_of(path)
+
+    def __iter__(self) -> Iterator[Epoch]:
+        return epochs(self.path)
+
+    def __repr__(self) -> str:
+        return f"Log({os.fspath(self.path)!r})"
+
+    def to_frame(self) -> pandas.DataFrame:
+        """A row an epoch: the columns of `gpslog summary --csv`, as a pandas frame."""
+        from gpscover import frames
+
+        return frames.epochs_frame(self)
+
+    def boxes_frame(self) -> pandas.DataFrame:
+        """A row a kept box, as a pandas frame."""
+        from gpscover import frames
+
+        return frames.boxes_frame(self)
+
+    def rows_frame(self) -> pandas.DataFrame:
+        """A row a usable satellite of each epoch, as a pandas frame."""
+        from gpscover import frames
+
+        return frames.rows_frame(self)
+
+
+def open_log(path: PathLike) -> Log:
+    """The log at a path. LogError where its first two lines aren't those of a log."""
+    return Log(path)

@@ -1,0 +1,141 @@
+"""The region of an epoch: its extents along local east, north and up, in metres, from the kept
+boxes' corners.
+"""
+
+from __future__ import annotations
+
+import math
+from collections.abc import Iterable, Sequence
+from dataclasses import dataclass
+
+from gpscover.errors import Error
+from gpscover.geodesy import Axes, Vector, dot, geodetic, local_axes
+from gpscover.log import UM_PER_M, Box, Epoch
+
+Extent = tuple[float, float]
+
+FACES = ("-x", "-y", "-z", "+x", "+y", "+z")
+
+
+@dataclass
+class Region:
+    """Where the kept boxes of an epoch lie.
+
+    `extents` are (low, high) along east, north, up from `origin`.
+    """
+
+    origin: Vector  # x, y, z in m; the axes are those at this point
+    axes: Axes  # the unit vectors east, north, up
+    extents: tuple[Extent, Extent, Extent]
+    clock: Extent  # the least and the greatest clock offset in m
+    volume: float  # of the kept boxes, in m^3
+    faces: list[str]  # those of the search box that a kept box touches
+
+    def widths(self) -> list[float]:
+        """How far the region reaches along east, north and up."""
+        return [high - low for low, high in self.extents]
+
+    def middle(self) -> Vector:
+        """The point in the middle of the extents, x, y, z in m."""
+        east, north, up = ((low + high) / 2 for low, high in self.extents)
+        return self.point((east, north, up))
+
+    def point(self, offset: Sequence[float]) -> Vector:
+        """The point x, y, z at an offset along east, north and up from the origin."""
+        x, y, z = (
+            self.origin[k] + sum(offset[j] * self.axes[j][k] for j in range(3)) for k in range(3)
+        )
+        return x, y, z
+
+    def contains(self, point: Sequence[float]) -> bool:
+        """Whether a point is within the extents along each of the three axes."""
+        offset = [p - o for p, o in zip(point, self.origin)]
+        return all(
+            low <= dot(axis, offset) <= high for axis, (low, high) in zip(self.axes, self.extents)
+        )
+
+
+def upward(value: float) -> float:
+    """A length in metres, rounded up to decimetres."""
+    return math.ceil(10 * value - 1e-6) / 10
+
+
+def half_sides(box: Box) -> Vector:
+    """Half of each side of a box, in m."""
+    x, y, z = ((box[k + 3] - box[k]) / (2 * UM_PER_M) for k in range(3))
+    return x, y, z
+
+
+def offset_of(box: Box, origin: Sequence[int]) -> Vector:
+    """The middle of a box as seen from an origin in um, in m.
+
+    The difference is taken in whole numbers.
+    """
+    x, y, z = ((box[k] + box[k + 3] - 2 * origin[k]) / (2 * UM_PER_M) for k in range(3))
+    return x, y, z
+
+
+def extent_along(
+    axis: Sequence[float], centres: Sequence[Vector], halves: Sequence[Vector]
+) -> Extent:
+    """The least and the greatest of the boxes' corners along an axis, from the middles of boxes and
+    half sides.
+    """
+    a, b, c = axis
+    d, e, f = abs(a), abs(b), abs(c)
+    lows, highs = [], []
+    for (x, y, z), (p, q, r) in zip(centres, halves):
+        middle, reach = a * x + b * y + c * z, d * p + e * q + f * r
+        lows.append(middle - reach)
+        highs.append(middle + reach)
+    return min(lows), max(highs)
+
+
+def touched_faces(hull: Box, root: Box) -> list[str]:
+    """The faces of the search box that a hull touches."""
+    return [name for name, a, b in zip(FACES, hull, root) if a == b]
+
+
+def hull_of(boxes: Iterable[Box]) -> Box:
+    """The least box round some boxes."""
+    ends = list(zip(*boxes))
+    return Box(*(min(end) for end in ends[:3]), *(max(end) for end in ends[3:]))
+
+
+def region_of(epoch: Epoch, origin: Sequence[float] | None = None) -> Region:
+    """The region of an epoch that has kept boxes, with the axes at `origin` in m, or at the middle
+    of their hull.
+    """
+    boxes = epoch.boxes
+    if not boxes or epoch.search is None:
+        raise Error(f"epoch {epoch.index} has no region")
+    hull = hull_of(boxes)
+    origin_um = [(hull[k] + hull[k + 3]) // 2 for k in range(3)]
+    if origin is not None:
+        origin_um = [round(value * UM_PER_M) for value in origin]
+    x, y, z = (value / UM_PER_M for value in origin_um)
+    axes = local_axes(*geodetic((x, y, z))[:2])
+    centres = [offset_of(box, origin_um) for box in boxes]
+    halves = [half_sides(box) for box in boxes]
+    east, north, up = (extent_along(axis, centres, halves) for axis in axes)
+    lows, highs = zip(*(kept.clock for kept in epoch.kept))
+    return Region(
+        (x, y, z),
+        axes,
+        (east, north, up),
+        (min(lows) / UM_PER_M, max(highs) / UM_PER_M),
+        sum(8 * p * q * r for p, q, r in halves),
+        touched_faces(hull, epoch.search),
+    )
+
+
+def reaches(epoch: Epoch) -> bool:
+    """Whether the region of an epoch reaches the search box."""
+    if not epoch.kept or epoch.search is None:
+        return False
+    return bool(touched_faces(hull_of(epoch.boxes), epoch.search))
+
+
+def region_or_none(epoch: Epoch) -> Region | None:
+    """The region of an epoch, or None where it keeps no box."""
+    return region_of(epoch) if epoch.kept else None

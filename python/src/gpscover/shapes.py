@@ -1,0 +1,552 @@
+"""Writes a file of zones for `gpscover guard` (its second form, `gpszones 2`), from places, lanes
+and areas of a map.
+
+usage: gpslog zones --for outside|inside [--place P].. [--reported P].. [--lane L].. [--area A]..
+                    [--reach R].. > ZONES
+
+  --place NAME,LAT,LON,HEIGHT,RADIUS,UP   the points within RADIUS along the ground of a place and
+  within UP above or below
+  --reported NAME,FILE,LOG,RADIUS,UP      the same of each epoch of a log that has a place in a list
+  of places: NAME-INDEX
+  --lane NAME,FILE,WIDTH,LOW,HIGH         a lane of this width, from LOW to HIGH above its line;
+  NAME-1, NAME-2, .. by leg
+  --area NAME,FILE,LOW,HIGH               a polygon between two heights
+  --reach NAME,LAT,LON                    directions NAME-e, NAME-n and NAME-u: east, north and up
+  there
+
+Latitudes and longitudes are in degrees, lengths and heights in metres, heights above the ellipsoid
+of WGS 84. FILE is KML (its first LineString or Polygon), GeoJSON (the same) or lines `LAT LON
+[HEIGHT]`; of --reported it is a list as places.py says. A polygon's edges are straight in the plane
+that touches the ellipsoid below its middle; its heights follow the ellipsoid. A place is a prism of
+12 sides, a leg one of 4.
+
+The user says what the zones are for, and all is rounded to that side. A zone for `outside` grows:
+where the answer is `outside` no fitting point lies in the zone as it was given. A zone for `inside`
+shrinks: where it is `inside` each fitting point lies in it. Growing or shrinking takes a millimetre
+for the arithmetic of this script, and what the curve of the ellipsoid, the round of a place (3.5 %
+of its radius) and directions of whole numbers cost. For `outside` a polygon that isn't convex is
+cut into triangles NAME-1, NAME-2, ..; for `inside` it is refused, as is one of more than 14
+corners: each of its points would have to lie in one prism. A reach is told in um times the length
+of its direction, which is 2^20 to within a millionth.
+
+Exit status: 0; 1 where a file can't be read, or a shape makes no zone; 2 for a wrong command line.
+"""
+
+from __future__ import annotations
+
+import argparse
+import itertools
+import json
+import math
+import re
+import xml.etree.ElementTree
+from collections.abc import Callable, Iterable, Sequence
+from fractions import Fraction
+from pathlib import Path
+from typing import Any
+
+from gpscover.command import Command, measure
+from gpscover.errors import Error
+from gpscover.geodesy import Vector, dot, earth_fixed, geodetic, local_axes
+from gpscover.log import PathLike, epochs
+from gpscover.outline import Flat
+from gpscover.places import Meetings, read_places
+from gpscover.zones import GREATEST, LONGEST, Side, Whole
+
+MOST_SIDES = 16
+LONGEST_NAME = 16
+ROUND_SIDES = 12
+UM = 10**6
+ARITHMETIC_UM = (
+    1000  # more than the rounding of the numbers of this script, for a point near the earth
+)
+WIDEST_M = 50_000
+
+
+class ShapeError(Error):
+    """A shape of which no zone is made."""
+
+
+class Face:
+    """A side of a shape: the direction out of it, and points on it, in metres."""
+
+    def __init__(self, out: Vector, points: list[Vector]) -> None:
+        self.out, self.points = out, points
+
+
+Shape = tuple[list[Face], list[Vector]]  # its faces, and its points
+
+
+def whole(direction: Vector) -> Whole:
+    """A direction of unit length as whole numbers of at most 2^20 in amount."""
+    x, y, z = (max(-LONGEST, min(LONGEST, round(part * LONGEST))) for part in direction)
+    return x, y, z
+
+
+def product(a: Iterable[float | Fraction], point: Iterable[float | Fraction]) -> Fraction:
+    """The exact product of two vectors."""
+    return sum((Fraction(x) * Fraction(y) for x, y in zip(a, point)), Fraction(0))
+
+
+def in_um(point: Iterable[float]) -> tuple[Fraction, ...]:
+    """A point in um, exactly that of its floating-point numbers in metres."""
+    return tuple(Fraction(part) * UM for part in point)
+
+
+def length_above(a: Whole) -> int:
+    """A whole number that is at least the length of a vector of whole numbers."""
+    return math.isqrt(sum(part * part for part in a)) + 1
+
+
+# ---- sides
+
+
+def grown(faces: list[Face], points: list[Vector]) -> list[Side]:
+    """Sides (A, H) whose prism holds all points."""
+    sides = []
+    for face in faces:
+        a = whole(face.out)
+        most = max(product(a, in_um(point)) for point in points)
+        sides.append((a, math.ceil(most) + ARITHMETIC_UM * length_above(a)))
+    return sides
+
+
+def limits(faces: list[Face]) -> list[tuple[Vector, Fraction]]:
+    """The half-spaces (out, most) of a shape: each ends at the innermost of its face's points, in
+    um."""
+    return [
+        (face.out, min(product(face.out, in_um(point)) for point in face.points)) for face in faces
+    ]
+
+
+def drawn_in(faces: list[Face], by: int) -> list[Side]:
+    """Sides (A, H) that lie by so many um inside the faces."""
+    sides = []
+    for face in faces:
+        a = whole(face.out)
+        least = min(product(a, in_um(point)) for point in face.points)
+        sides.append((a, math.floor(least) - by * length_above(a)))
+    return sides
+
+
+def cross(a: Sequence[Any], b: Sequence[Any]) -> tuple[Any, Any, Any]:
+    """The vector product."""
+    return a[1] * b[2] - a[2] * b[1], a[2] * b[0] - a[0] * b[2], a[0] * b[1] - a[1] * b[0]
+
+
+def whole_product(a: Sequence[int], b: Sequence[int]) -> int:
+    """The product of two vectors of whole numbers."""
+    return a[0] * b[0] + a[1] * b[1] + a[2] * b[2]
+
+
+def corners(sides: Sequence[Side]) -> list[tuple[int, int, int, int]]:
+    """The corners of a prism, as (x, y, z, divisor) of whole numbers with a divisor above 0."""
+    found = []
+    for (a, f), (b, g), (c, h) in itertools.combinations(sides, 3):
+        bc, ca, ab = cross(b, c), cross(c, a), cross(a, b)
+        divisor = whole_product(a, bc)
+        if divisor:
+            sign = 1 if divisor > 0 else -1
+            point = [sign * (f * p + g * q + h * r) for p, q, r in zip(bc, ca, ab)]
+            if all(whole_product(s, point) <= most * abs(divisor) for s, most in sides):
+                found.append((point[0], point[1], point[2], abs(divisor)))
+    return found
+
+
+def shrunk(faces: list[Face]) -> list[Side]:
+    """Sides (A, H) whose prism lies in all half-spaces of the faces, by its corners."""
+    bounds, by = limits(faces), ARITHMETIC_UM
+    while by <= UM:
+        sides = drawn_in(faces, by)
+        points = corners(sides)
+        if not points:
+            raise ShapeError("nothing is left of it")
+        if all(
+            product(out, point[:3]) <= (most - ARITHMETIC_UM) * point[3]
+            for out, most in bounds
+            for point in points
+        ):
+            return sides
+        by *= 2
+    raise ShapeError("its sides are too near to one direction")
+
+
+def prism(name: str, faces: list[Face], points: list[Vector], purpose: str) -> list[str]:
+    """The lines of a prism with these faces, which end at these points."""
+    if len(name) > LONGEST_NAME:
+        raise ShapeError(f"{name}: a name has at most {LONGEST_NAME} characters")
+    sides = grown(faces, points) if purpose == "outside" else shrunk(faces)
+    if len(sides) > MOST_SIDES:
+        raise ShapeError(f"{name}: a prism has at most {MOST_SIDES} sides")
+    if any(abs(most) > GREATEST for _, most in sides):
+        raise ShapeError(f"{name}: it is too far away")
+    return [f"prism {name} {len(sides)}"] + [
+        f"side {x} {y} {z} {most}" for (x, y, z), most in sides
+    ]
+
+
+# ---- shapes over the ground
+
+
+class Ground:
+    """The plane that touches the ellipsoid below a place: east, north and up in metres, from that
+    place."""
+
+    def __init__(self, latitude: float, longitude: float) -> None:
+        self.place = (latitude, longitude)
+        self.axes = local_axes(latitude, longitude)
+        self.origin = earth_fixed(latitude, longitude, 0.0)
+
+    def local(self, latitude: float, longitude: float, height: float) -> Vector:
+        """East, north and up of a point."""
+        away = [p - o for p, o in zip(earth_fixed(latitude, longitude, height), self.origin)]
+        east, north, up = (dot(away, axis) for axis in self.axes)
+        return east, north, up
+
+    def direction(self, parts: Vector) -> Vector:
+        """A vector of east, north and up parts in the earth-fixed frame."""
+        x, y, z = (sum(part * axis[i] for part, axis in zip(parts, self.axes)) for i in range(3))
+        return x, y, z
+
+    def point(self, parts: Vector) -> Vector:
+        """A point of east, north and up in the earth-fixed frame."""
+        x, y, z = (o + d for o, d in zip(self.origin, self.direction(parts)))
+        return x, y, z
+
+
+def upright(ground: Ground, rings: list[list[Vector]], low: float, high: float) -> Shape:
+    """Faces and points of an upright shape: rings of (east, north, up) below and above,
+    counterclockwise, and the heights that the middle has between them."""
+    below, above = ([ground.point(p) for p in ring] for ring in rings)
+    middle_low, middle_high = (ground.point((0.0, 0.0, height)) for height in (low, high))
+    faces = []
+    count = len(below)
+    for i, j in ((i, (i + 1) % count) for i in range(count)):
+        east, north = (rings[0][j][k] - rings[0][i][k] for k in (0, 1))
+        length = math.hypot(east, north)
+        if not length:
+            raise ShapeError("two of its corners are one point")
+        faces.append(
+            Face(
+                ground.direction((north / length, -east / length, 0.0)),
+                [below[i], below[j], above[i], above[j]],
+            )
+        )
+    faces.append(Face(scaled(-1, ground.axes[2]), [*below, middle_low]))
+    faces.append(Face(ground.axes[2], [*above, middle_high]))
+    return faces, [*below, *above, middle_low, middle_high]
+
+
+def place_lines(
+    name: str, place: Sequence[float], radius: float, up: float, purpose: str
+) -> list[str]:
+    """A place: a prism of 12 sides round its circle for `outside`, in it for `inside`."""
+    latitude, longitude, height = place
+    ground = Ground(math.radians(latitude), math.radians(longitude))
+    far = radius / math.cos(math.pi / ROUND_SIDES) if purpose == "outside" else radius
+    turns = [2 * math.pi * k / ROUND_SIDES for k in range(ROUND_SIDES)]
+    low, high = height - up, height + up
+    rings = [
+        [(far * math.cos(t), far * math.sin(t), level) for t in turns] for level in (low, high)
+    ]
+    return prism(name, *upright(ground, rings, low, high), purpose)
+
+
+def reported_lines(
+    name: str, path: PathLike, log: PathLike, radius: float, up: float, purpose: str
+) -> list[str]:
+    """A place for each epoch of a log that has one in a list of places, within 0.1 s."""
+    meetings = Meetings(path, read_places(path))
+    written: list[str] = []
+    for epoch in epochs(log):
+        place = meetings.at(epoch.ps)
+        if place is not None:
+            latitude, longitude, height = geodetic(place)
+            where = math.degrees(latitude), math.degrees(longitude), height
+            written += place_lines(f"{name}-{epoch.index}", where, radius, up, purpose)
+    meetings.refuse_strangers()
+    return written
+
+
+def area_lines(name: str, ring: list[Vector], low: float, high: float, purpose: str) -> list[str]:
+    """A polygon of (latitude, longitude) in degrees between two heights."""
+    around = [(math.radians(p[0]), math.radians(p[1])) for p in ring]
+    if len(around) > 1 and around[0] == around[-1]:
+        around = around[:-1]
+    if len(around) < 3:
+        raise ShapeError(f"{name}: an area has three corners or more")
+    ground = Ground(*(sum(p[k] for p in around) / len(around) for k in (0, 1)))
+    flat = [ground.local(*p, 0.0)[:2] for p in around]
+    if max(math.hypot(*p) for p in flat) > WIDEST_M:
+        raise ShapeError(f"{name}: it is wider than {2 * WIDEST_M // 1000} km")
+    if turn_of(flat) < 0:
+        around, flat = around[::-1], flat[::-1]
+    whole_ring = is_convex(flat) and len(around) <= MOST_SIDES - 2
+    if not whole_ring and purpose == "inside":
+        raise ShapeError(
+            f"{name}: for inside it must be convex, with at most {MOST_SIDES - 2} corners"
+        )
+    parts = [tuple(range(len(around)))] if whole_ring else triangles(flat)
+    written: list[str] = []
+    for number, part in enumerate(parts, 1):
+        rings = [[ground.local(*around[i], height) for i in part] for height in (low, high)]
+        written += prism(
+            name if whole_ring else f"{name}-{number}", *upright(ground, rings, low, high), purpose
+        )
+    return written
+
+
+def turn_of(flat: list[Flat]) -> float:
+    """Twice the area of a polygon, which is above 0 where it goes counterclockwise."""
+    return sum(p[0] * q[1] - p[1] * q[0] for p, q in zip(flat, flat[1:] + flat[:1]))
+
+
+def turns_left(p: Flat, q: Flat, r: Flat) -> float:
+    """How far the way from p over q to r turns left."""
+    return (q[0] - p[0]) * (r[1] - q[1]) - (q[1] - p[1]) * (r[0] - q[0])
+
+
+def is_convex(flat: list[Flat]) -> bool:
+    """Whether a counterclockwise polygon turns left at each corner."""
+    count = len(flat)
+    return all(turns_left(flat[i - 2], flat[i - 1], flat[i]) > 0 for i in range(count))
+
+
+def triangles(flat: list[Flat]) -> list[tuple[int, ...]]:
+    """A counterclockwise polygon cut into triangles, as the places of their corners: one ear after
+    another."""
+    left = list(range(len(flat)))
+    found: list[tuple[int, ...]] = []
+    while len(left) > 3:
+        ear = next((k for k in range(len(left)) if is_ear(flat, left, k)), None)
+        if ear is None:
+            raise ShapeError("its edges cross")
+        found.append((left[ear - 1], left[ear], left[(ear + 1) % len(left)]))
+        del left[ear]
+    return [*found, tuple(left)]
+
+
+def is_ear(flat: list[Flat], left: list[int], k: int) -> bool:
+    """Whether the corner turns left, and no other corner lies in the triangle with its
+    neighbours."""
+    a, b, c = (flat[left[i % len(left)]] for i in (k - 1, k, k + 1))
+    if turns_left(a, b, c) <= 0:
+        return False
+    others = (flat[i] for i in left if flat[i] not in (a, b, c))
+    return not any(
+        turns_left(a, b, p) >= 0 and turns_left(b, c, p) >= 0 and turns_left(c, a, p) >= 0
+        for p in others
+    )
+
+
+# ---- lanes
+
+
+def scaled(factor: float, a: Vector) -> Vector:
+    """A vector times a number."""
+    return factor * a[0], factor * a[1], factor * a[2]
+
+
+def unit(a: Sequence[float]) -> Vector:
+    """The vector of length one."""
+    length = math.hypot(*a)
+    x, y, z = (part / length for part in a)
+    return x, y, z
+
+
+def lane_lines(
+    name: str, line: list[Vector], width: float, low: float, high: float, purpose: str
+) -> list[str]:
+    """A polyline of (latitude, longitude, height) with a width.
+
+    A leg for `outside` goes on by half of the width at both ends, so that the corner between two
+    legs is in one of them.
+    """
+    if len(line) < 2:
+        raise ShapeError(f"{name}: a lane has two points or more")
+    beyond = width / 2 if purpose == "outside" else 0.0
+    written: list[str] = []
+    for number, (start, end) in enumerate(zip(line, line[1:]), 1):
+        written += prism(
+            f"{name}-{number}", *leg(start, end, width / 2, low, high, beyond), purpose
+        )
+    return written
+
+
+def leg(start: Vector, end: Vector, half: float, low: float, high: float, beyond: float) -> Shape:
+    """Faces and points of a leg from one place to another."""
+    ends = [earth_fixed(math.radians(p[0]), math.radians(p[1]), p[2]) for p in (start, end)]
+    if not 0 < math.dist(*ends) <= WIDEST_M:
+        raise ShapeError(f"a leg is longer than 0 and at most {WIDEST_M // 1000} km long")
+    along = unit([q - p for p, q in zip(*ends)])
+    middle = [(p + q) / 2 for p, q in zip(*ends)]
+    latitude, longitude, sunk = geodetic(middle)
+    bulge = max(0.0, (start[2] + end[2]) / 2 - sunk)  # the line is straight, the ellipsoid is not
+    right = unit(cross(along, local_axes(latitude, longitude)[2]))
+    lift = cross(right, along)
+
+    def point(at: Sequence[float], forth: float, side: float, up: float) -> Vector:
+        x, y, z = (p + forth * a + side * r + up * u for p, a, r, u in zip(at, along, right, lift))
+        return x, y, z
+
+    levels = {low: low, high: high}
+    shape = {
+        (forth, side, level): point(ends[forth > 0], forth * beyond, side * half, levels[level])
+        for forth in (-1, 1)
+        for side in (-1, 1)
+        for level in (low, high)
+    }
+    tops = [
+        point(middle, 0.0, side * half, level + bulge) for side in (-1, 1) for level in (low, high)
+    ]
+    faces = [
+        Face(scaled(sign, axis), [p for key, p in shape.items() if key[k] == wanted])
+        for k, axis, pairs in (
+            (0, along, ((-1, -1), (1, 1))),
+            (1, right, ((-1, -1), (1, 1))),
+            (2, lift, ((-1, low), (1, high))),
+        )
+        for sign, wanted in pairs
+    ]
+    faces[4].points += [tops[0], tops[2]]
+    return faces, [*shape.values(), *tops]
+
+
+# ---- files
+
+
+def place_of(longitude: object, latitude: object, height: object = 0.0, *_: object) -> Vector:
+    """A place (latitude, longitude, height) of numbers or their texts."""
+    return measure(latitude), measure(longitude), measure(height)
+
+
+def kml_places(text: str, kind: str) -> list[Vector]:
+    """The places of the first line or outer ring of a KML document."""
+    for node in xml.etree.ElementTree.fromstring(text).iter():
+        if node.tag.rpartition("}")[2] == kind:
+            for inner in node.iter():
+                if inner.tag.rpartition("}")[2] == "coordinates":
+                    return [place_of(*word.split(",")) for word in (inner.text or "").split()]
+    return []
+
+
+def json_places(tree: Any, kind: str) -> list[Vector]:
+    """The places of the first line or outer ring of a GeoJSON value."""
+    if isinstance(tree, dict):
+        if tree.get("type") == kind:
+            line = tree["coordinates"][0] if kind == "Polygon" else tree["coordinates"]
+            return [place_of(*position) for position in line]
+        tree = list(tree.values())
+    for part in tree if isinstance(tree, list) else []:
+        found = json_places(part, kind)
+        if found:
+            return found
+    return []
+
+
+def row_places(text: str) -> list[Vector]:
+    """The places of lines `LAT LON [HEIGHT]`."""
+    rows = (line.split() for line in text.splitlines() if line.strip())
+    return [place_of(longitude, latitude, *more) for latitude, longitude, *more in rows]
+
+
+def places_in(text: str, kind: str) -> list[Vector]:
+    """The places (latitude, longitude, height) of a text in one of the three forms."""
+    if text.lstrip().startswith("<"):
+        return kml_places(text, kind)
+    if text.lstrip().startswith("{"):
+        return json_places(json.loads(text), kind)
+    return row_places(text)
+
+
+def places_of(path: PathLike, kind: str) -> list[Vector]:
+    """The places of a file. ShapeError where its text, whatever it is, has none."""
+    try:
+        found = places_in(Path(path).read_text(encoding="utf-8"), kind)
+    except (
+        ValueError,
+        TypeError,
+        LookupError,
+        AttributeError,
+        RecursionError,
+        xml.etree.ElementTree.ParseError,
+    ):
+        found = []
+    if not found:
+        raise ShapeError(f"{path}: there is no {kind} in it, or not all of its places are numbers")
+    return found
+
+
+# ---- the command
+
+
+def reach_lines(name: str, latitude: float, longitude: float) -> list[str]:
+    """East, north and up at a place."""
+    axes = local_axes(math.radians(latitude), math.radians(longitude))
+    return [
+        "reach {}-{} {} {} {}".format(name, letter, *whole(axis))
+        for letter, axis in zip("enu", axes)
+    ]
+
+
+def field_list(names: list[str]) -> Callable[[str], list[Any]]:
+    """A reader of `NAME,..` with these fields: a name, a file, or numbers."""
+
+    def fields(text: str) -> list[Any]:
+        words = text.split(",")
+        if len(words) != len(names) or not re.fullmatch("[a-z0-9-]{1,12}", words[0]):
+            raise argparse.ArgumentTypeError(
+                f"it is {','.join(names)}, the name 1 to 12 of a-z, 0-9 and -"
+            )
+        return [
+            field if name in ("NAME", "FILE", "LOG") else measure(field)
+            for name, field in zip(names, words)
+        ]
+
+    return fields
+
+
+def arguments(parser: argparse.ArgumentParser) -> None:
+    """The words of the command line."""
+    parser.add_argument("--for", dest="purpose", choices=("outside", "inside"), required=True)
+    for option, names in (
+        ("--place", "NAME LAT LON HEIGHT RADIUS UP"),
+        ("--reported", "NAME FILE LOG RADIUS UP"),
+        ("--lane", "NAME FILE WIDTH LOW HIGH"),
+        ("--area", "NAME FILE LOW HIGH"),
+        ("--reach", "NAME LAT LON"),
+    ):
+        parser.add_argument(
+            option,
+            action="append",
+            default=[],
+            type=field_list(names.split()),
+            metavar=names.replace(" ", ","),
+        )
+
+
+def file_lines(args: argparse.Namespace) -> list[str]:
+    """The lines of the file."""
+    lines = ["gpszones 2"]
+    for place in args.place:
+        name, *where, radius, up = place
+        lines += place_lines(name, where, radius, up, args.purpose)
+    for reported in args.reported:
+        name, path, log, radius, up = reported
+        lines += reported_lines(name, path, log, radius, up, args.purpose)
+    for name, path, width, low, high in args.lane:
+        lines += lane_lines(name, places_of(path, "LineString"), width, low, high, args.purpose)
+    for name, path, low, high in args.area:
+        lines += area_lines(name, places_of(path, "Polygon"), low, high, args.purpose)
+    for reach in args.reach:
+        lines += reach_lines(*reach)
+    return lines
+
+
+def run(args: argparse.Namespace) -> int:
+    """Prints the file. The status."""
+    print(*file_lines(args), sep="\n")
+    return 0
+
+
+COMMAND = Command("zones", "a file of zones, from places, lanes and areas", arguments, run, __doc__)

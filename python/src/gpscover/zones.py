@@ -1,0 +1,277 @@
+"""Tells what the regions of a log say of zones and directions, in whole numbers: which lie outside,
+inside, or neither.
+
+usage: gpslog answers ZONES LOG
+
+ZONES is a file of zones in either form (`gpslog zones` writes one). For each epoch it prints `epoch
+INDEX few`, or a line for each zone and direction: `epoch INDEX zone NAME outside|inside|open`,
+`epoch INDEX reach NAME LO HI` or `.. none`. A zone is outside where each box that the epoch keeps
+lies apart from it, and a prism where each lies beyond one of its sides; inside where there is a box
+and each lies in it. Behind the epochs of the second form stand `zone NAME outside A inside B open C
+few D` and `reach NAME LO HI` over all of them.
+
+These are the lines of `gpscover guard`. But the log is read as it stands here: whether it is right
+`guard` asks first, and nothing that is printed here means more than that. Exit status: 0; 1 where a
+file can't be read, or isn't of its form; 2 for a wrong command line.
+"""
+
+from __future__ import annotations
+
+import argparse
+import re
+from collections import Counter
+from collections.abc import Iterable, Iterator, Sequence
+from dataclasses import dataclass
+
+from gpscover.command import Command
+from gpscover.errors import Error
+from gpscover.log import Box, PathLike, epochs
+
+Whole = tuple[int, int, int]
+Side = tuple[Whole, int]  # (A, H)
+Ends = tuple[int, int]
+
+HEADS = "gpszones 1", "gpszones 2"
+ANSWERS = "outside", "inside", "open"
+FARTHEST = 10**13
+LONGEST = 2**20
+GREATEST = 10**20
+
+
+class ZonesError(Error):
+    """A text that isn't one of zones: its first line that doesn't fit."""
+
+
+@dataclass
+class Corners:
+    """A zone between two corners in um."""
+
+    name: str
+    low: Whole
+    high: Whole
+
+    def answer(self, boxes: Sequence[Box]) -> str:
+        """What boxes (low corner and high corner) say of it."""
+        low, high = self.low, self.high
+        apart = [any(b[k] > high[k] or b[k + 3] < low[k] for k in range(3)) for b in boxes]
+        within = [all(low[k] <= b[k] and b[k + 3] <= high[k] for k in range(3)) for b in boxes]
+        return word(apart, within)
+
+
+@dataclass
+class Prism:
+    """A zone behind planes: the points p with A p <= H, in um, for each of its sides (A, H)."""
+
+    name: str
+    sides: list[Side]
+
+    def answer(self, boxes: Sequence[Box]) -> str:
+        """What boxes say of it."""
+        ends = [[span(a, box) for a, _ in self.sides] for box in boxes]
+        beyond = [any(low > most for (low, _), (_, most) in zip(of, self.sides)) for of in ends]
+        behind = [all(high <= most for (_, high), (_, most) in zip(of, self.sides)) for of in ends]
+        return word(beyond, behind)
+
+
+@dataclass
+class Reach:
+    """A direction, as a vector of whole numbers."""
+
+    name: str
+    along: Whole
+
+    def ends(self, boxes: Sequence[Box]) -> Ends | None:
+        """The least and the greatest product of it and a corner, or none."""
+        spans = [span(self.along, box) for box in boxes]
+        return (min(low for low, _ in spans), max(high for _, high in spans)) if spans else None
+
+
+Zone = Corners | Prism
+Thing = Corners | Prism | Reach
+
+
+def word(outside: list[bool], inside: list[bool]) -> str:
+    """The answer by what each box says."""
+    return "outside" if all(outside) else "inside" if all(inside) else "open"
+
+
+def span(a: Whole, box: Sequence[int]) -> Ends:
+    """The least and the greatest product of a vector and a corner of a box."""
+    pairs = [(a[k] * box[k], a[k] * box[k + 3]) for k in range(3)]
+    return sum(min(pair) for pair in pairs), sum(max(pair) for pair in pairs)
+
+
+# ---- the file
+
+
+def numbers(words: list[str], *bounds: int) -> tuple[int, ...]:
+    """Whole numbers in their one spelling, each within its bound."""
+    if len(words) != len(bounds) or not all(
+        re.fullmatch("0|-?[1-9][0-9]*", w) and abs(int(w)) <= b for w, b in zip(words, bounds)
+    ):
+        raise ValueError
+    return tuple(map(int, words))
+
+
+def direction(words: list[str]) -> Whole:
+    """A vector that isn't zero."""
+    x, y, z = numbers(words, *[LONGEST] * 3)
+    if (x, y, z) == (0, 0, 0):
+        raise ValueError
+    return x, y, z
+
+
+def thing_of(words: list[str], second: bool) -> tuple[Thing, int]:
+    """The zone or direction of a line, and how many sides are owed behind it."""
+    kind, name, *rest = words
+    if not re.fullmatch("[a-z0-9-]{1,16}", name):
+        raise ValueError
+    if kind == "zone":
+        ends = numbers(rest, *[FARTHEST] * 6)
+        a, b, c, d, e, f = ends
+        if a > d or b > e or c > f:
+            raise ValueError
+        return Corners(name, (a, b, c), (d, e, f)), 0
+    if second and kind == "reach":
+        return Reach(name, direction(rest)), 0
+    if second and kind == "prism":
+        (count,) = numbers(rest, 16)
+        if count < 1:
+            raise ValueError
+        return Prism(name, []), count
+    raise ValueError
+
+
+def zone_file(path: PathLike) -> list[str]:
+    """The lines of a file of zones; the last one is what stands behind the last LF."""
+    with open(path, encoding="latin-1", newline="") as file:
+        return file.read().split("\n")
+
+
+class Reader:
+    """The zones and directions of a file's lines, and how many sides are owed to the last one."""
+
+    def __init__(self, second: bool) -> None:
+        self.second, self.owed = second, 0
+        self.things: list[Thing] = []
+        self.names: set[str] = set()
+
+    def take(self, words: list[str]) -> None:
+        """Takes a line. ValueError where it doesn't fit."""
+        if self.owed:
+            self.take_side(words)
+            return
+        if len(words) < 3 or words[1] in self.names:
+            raise ValueError
+        thing, self.owed = thing_of(words, self.second)
+        self.names.add(thing.name)
+        self.things.append(thing)
+
+    def take_side(self, words: list[str]) -> None:
+        """Takes a side of the last prism."""
+        prism = self.things[-1]
+        if words[0] != "side" or len(words) != 5 or not isinstance(prism, Prism):
+            raise ValueError
+        (most,) = numbers(words[4:], GREATEST)
+        prism.sides.append((direction(words[1:4]), most))
+        self.owed -= 1
+
+
+def read_zones(path: PathLike) -> tuple[bool, list[Thing]]:
+    """Whether a file is of the second form, and its zones and directions.
+
+    ZonesError where a line doesn't fit.
+    """
+    lines, number = zone_file(path), 1
+    try:
+        if len(lines) < 2 or lines[0] not in HEADS:
+            raise ValueError
+        reader = Reader(lines[0] == HEADS[1])
+        for number, line in enumerate(lines[1:-1], 2):
+            reader.take(line.split(" "))
+        number = len(lines)
+        if lines[-1] or reader.owed:
+            raise ValueError
+    except ValueError:
+        raise ZonesError(f"{path}: line {number} doesn't fit") from None
+    return reader.second, reader.things
+
+
+# ---- what is told
+
+
+def told(ends: Ends | None) -> str:
+    """The ends of a reach."""
+    return "none" if ends is None else f"{ends[0]} {ends[1]}"
+
+
+def wider(a: Ends | None, b: Ends | None) -> Ends | None:
+    """The reach of both."""
+    return b if a is None else a if b is None else (min(a[0], b[0]), max(a[1], b[1]))
+
+
+class Answers:
+    """What the epochs of a log say of zones and directions, and of all of them together."""
+
+    def __init__(self, things: list[Thing]) -> None:
+        self.things, self.few = things, 0
+        self.counts: dict[str, Counter[str]] = {thing.name: Counter() for thing in things}
+        self.reaches: dict[str, Ends | None] = {}
+
+    def of_epoch(self, boxes: Sequence[Box]) -> Iterator[str]:
+        """What an epoch's boxes say, a line each."""
+        for thing in self.things:
+            if isinstance(thing, Reach):
+                ends = thing.ends(boxes)
+                self.reaches[thing.name] = wider(self.reaches.get(thing.name), ends)
+                yield f"reach {thing.name} {told(ends)}"
+            else:
+                answer = thing.answer(boxes)
+                self.counts[thing.name][answer] += 1
+                yield f"zone {thing.name} {answer}"
+
+    def of_all(self) -> Iterator[str]:
+        """What all epochs say together."""
+        for thing in self.things:
+            if isinstance(thing, Reach):
+                yield f"reach {thing.name} {told(self.reaches.get(thing.name))}"
+            else:
+                count = self.counts[thing.name]
+                counts = " ".join(f"{answer} {count[answer]}" for answer in ANSWERS)
+                yield f"zone {thing.name} {counts} few {self.few}"
+
+
+def lines(
+    second: bool, things: list[Thing], log: Iterable[tuple[int, list[Box] | None]]
+) -> Iterator[str]:
+    """The lines of a log's epochs (index, boxes), and behind them those of all.
+
+    The boxes are None in an epoch of few satellites.
+    """
+    answers = Answers(things)
+    for index, boxes in log:
+        if boxes is None:
+            answers.few += 1
+            yield f"epoch {index} few"
+        else:
+            yield from (f"epoch {index} {said}" for said in answers.of_epoch(boxes))
+    if second:
+        yield from answers.of_all()
+
+
+def arguments(parser: argparse.ArgumentParser) -> None:
+    """The words of the command line."""
+    parser.add_argument("zones", metavar="ZONES")
+    parser.add_argument("log", metavar="LOG")
+
+
+def run(args: argparse.Namespace) -> int:
+    """Prints the answers. The status."""
+    second, things = read_zones(args.zones)
+    log = ((epoch.index, None if epoch.few else epoch.boxes) for epoch in epochs(args.log))
+    for line in lines(second, things, log):
+        print(line)
+    return 0
+
+
+COMMAND = Command("answers", "what the regions of a log say of zones", arguments, run, __doc__)

@@ -1,0 +1,565 @@
+"""Zones by exact fractions and by all corners, and what the program says of them.
+
+Its `guard` has to print what `gpslog answers` does, of a thousand drawn zones, prisms and
+directions on a solved and a tracked log of examples/vehicle.obs, and of zones that are made.
+"""
+
+import itertools
+import json
+import math
+import random
+import re
+import subprocess
+import tempfile
+from fractions import Fraction
+from pathlib import Path
+
+import pytest
+from made_logs import EXAMPLES, RECORDED, ended, ended_with
+
+from gpscover import Error, shapes, zones
+from gpscover.geodesy import dot, earth_fixed
+from gpscover.log import epochs as read_epochs
+from gpscover.region import hull_of
+
+DRAWN = 1000
+PLACES = RECORDED / "cres_2008.places"
+
+
+NONE = "there is no (Polygon|LineString) in it, or not all of its places are numbers"
+THREE = "a: an area has three corners or more"
+AREA, LANE = ("--area", "800,1150"), ("--lane", "120,-160,160")
+# A file's name, its text, the option that reads it with the fields behind it, and the line that says what is wrong.
+NO_SHAPES = (
+    ("null-geometry.json", '{"type": "Feature", "geometry": null}', *AREA, NONE),
+    ("empty-object.json", "{}", *AREA, NONE),
+    ("number.json", "1", *AREA, NONE),
+    (
+        "null-corner.json",
+        '{"type": "Polygon", "coordinates": [[[1, 2], [1, 3], null]]}',
+        *AREA,
+        NONE,
+    ),
+    ("no-coordinates.json", '{"type": "Polygon"}', *AREA, NONE),
+    (
+        "infinite.json",
+        '{"type": "Polygon", "coordinates": [[[1, 2], [1, 3], [2, Infinity]]]}',
+        *AREA,
+        NONE,
+    ),
+    ("deep.json", '{"geometry": ' * 10_000, *AREA, NONE),
+    ("deep.kml", "<a>" * 10_000, *AREA, NONE),
+    ("one-corner.txt", "35.8 138.3\n", *AREA, THREE),
+    ("one-point-thrice.txt", "35.875 138.392 900\n" * 3, *AREA, THREE),
+    ("not-a-number.txt", "35.875 138.392\n35.875 nan\n35.876 138.393\n", *AREA, NONE),
+    ("empty.txt", "", *LANE, NONE),
+    ("one-number.txt", "35.8\n", *LANE, NONE),
+    (
+        "short-position.json",
+        '{"type": "LineString", "coordinates": [[138], [138, 35.1]]}',
+        *LANE,
+        NONE,
+    ),
+    ("text-position.json", '{"type": "LineString", "coordinates": ["east", "west"]}', *LANE, NONE),
+    ("empty-coordinates.kml", "<kml><LineString><coordinates/></LineString></kml>", *LANE, NONE),
+    (
+        "one-place-twice.kml",
+        "<kml><LineString><coordinates>138,35 138,35</coordinates></LineString></kml>",
+        *LANE,
+        "a leg is longer than 0",
+    ),
+)
+
+
+def said(*words):
+    """The lines that the script prints for these words."""
+    status, out, _ = ended_with(shapes, *words)
+    assert status == 0
+    return out.splitlines()
+
+
+def prisms(lines):
+    """The prisms of some lines: lists of sides (A, H)."""
+    found = []
+    for line in lines:
+        word, *rest = line.split()
+        if word == "prism":
+            found.append([])
+        elif word == "side":
+            x, y, z, most = map(int, rest)
+            found[-1].append(((x, y, z), most))
+    return found
+
+
+def holds(sides, point):
+    """Whether a prism holds a point in um, by exact fractions."""
+    return all(shapes.product(a, point) <= most for a, most in sides)
+
+
+def answer(sides, boxes):
+    """What boxes (lo, hi) in um say of a prism, by all of their corners."""
+    values = [
+        [
+            [sum(x * y for x, y in zip(a, corner)) for corner in itertools.product(*zip(*box))]
+            for box in boxes
+        ]
+        for a, _ in sides
+    ]
+    if all(
+        any(min(values[s][b]) > sides[s][1] for s in range(len(sides))) for b in range(len(boxes))
+    ):
+        return "outside"
+    if boxes and all(
+        max(values[s][b]) <= sides[s][1] for s in range(len(sides)) for b in range(len(boxes))
+    ):
+        return "inside"
+    return "open"
+
+
+def um(point):
+    return tuple(Fraction(part) * shapes.UM for part in point)
+
+
+def drawn_place(draw):
+    return (
+        draw.uniform(-89, 89),
+        draw.uniform(-180, 180),
+        draw.uniform(-100, 3000),
+        draw.uniform(1, 500),
+        draw.uniform(1, 100),
+    )
+
+
+def around(draw, place):
+    """A point within the radius and the heights of a place, or at their edge, in the plane below it."""
+    latitude, longitude, height, radius, up = place
+    ground = shapes.Ground(math.radians(latitude), math.radians(longitude))
+    far, turn = radius * draw.choice((1, math.sqrt(draw.random()))), draw.uniform(0, 2 * math.pi)
+    return ground.point(
+        (
+            far * math.cos(turn),
+            far * math.sin(turn),
+            height + up * draw.choice((-1, 1, draw.uniform(-1, 1))),
+        )
+    )
+
+
+class TestPlaces:
+    def test_a_thousand_drawn_places_are_held_by_what_grew_and_hold_what_shrank(self):
+        draw = random.Random(1)
+        for number in range(DRAWN):
+            place = drawn_place(draw)
+            (grown,) = prisms(shapes.place_lines("a", *place, "outside"))
+            for _ in range(3):
+                assert holds(grown, um(around(draw, place))), (number, place)
+            if number % 50:
+                continue
+            (shrunk,) = prisms(shapes.place_lines("a", *place, "inside"))
+            self.assert_corners_within(shrunk, place)
+
+    def assert_corners_within(self, sides, place):
+        latitude, longitude, height, radius, up = place
+        ground = shapes.Ground(math.radians(latitude), math.radians(longitude))
+        found = shapes.corners(sides)
+        assert found
+        for x, y, z, divisor in found:
+            point = [
+                float(Fraction(part, divisor) / shapes.UM) - o
+                for part, o in zip((x, y, z), ground.origin)
+            ]
+            east, north, above = (dot(point, axis) for axis in ground.axes)
+            assert math.hypot(east, north) < radius
+            assert abs(above - height) < up
+
+    def test_the_middle_of_a_place_is_inside_and_what_is_beyond_is_outside(self):
+        place = (47.2, 8.5, 400.0, 25.0, 10.0)
+        middle = [
+            round(part * shapes.UM)
+            for part in earth_fixed(math.radians(47.2), math.radians(8.5), 400.0)
+        ]
+        near = [(tuple(p - 10**6 for p in middle), tuple(p + 10**6 for p in middle))]
+        far = [(tuple(p + 40 * 10**6 for p in middle), tuple(p + 41 * 10**6 for p in middle))]
+        for purpose in ("outside", "inside"):
+            (sides,) = prisms(shapes.place_lines("a", *place, purpose))
+            assert [answer(sides, boxes) for boxes in (near, far, near + far, [])] == [
+                "inside",
+                "outside",
+                "open",
+                "outside",
+            ]
+
+
+class TestAreas:
+    def ring(self, draw, count):
+        """A polygon round a place, star-shaped and so seldom convex."""
+        latitude, longitude = draw.uniform(-80, 80), draw.uniform(-179, 179)
+        turns = sorted(draw.uniform(0, 2 * math.pi) for _ in range(count))
+        far = [draw.uniform(1e-4, 2e-3) for _ in turns]
+        return [
+            (
+                latitude + f * math.sin(t),
+                longitude + f * math.cos(t) / math.cos(math.radians(latitude)),
+            )
+            for f, t in zip(far, turns)
+        ]
+
+    def test_points_of_drawn_polygons_are_held_by_a_part(self):
+        draw = random.Random(2)
+        for number in range(200):
+            ring = self.ring(draw, draw.randint(3, 9))
+            try:
+                parts = prisms(shapes.area_lines("a", ring, 100.0, 130.0, "outside"))
+            except shapes.ShapeError:
+                continue
+            for start, end in zip(ring, ring[1:] + ring[:1]):
+                for share in (0.0, 0.5, 0.9):
+                    at = [math.radians(p + share * (q - p)) for p, q in zip(start, end)]
+                    for height in (100.0, 117.0, 130.0):
+                        point = um(earth_fixed(*at, height))
+                        near = any(
+                            all(
+                                shapes.product(a, point) <= most + 200_000 * shapes.LONGEST
+                                for a, most in part
+                            )
+                            for part in parts
+                        )
+                        held = any(holds(part, point) for part in parts)
+                        assert held or (share and near), (number, share, height)
+
+    def test_for_inside_it_must_be_convex(self):
+        square = [(47.0, 8.0), (47.0, 8.001), (47.001, 8.001), (47.001, 8.0)]
+        (sides,) = prisms(shapes.area_lines("a", square, 0.0, 20.0, "inside"))
+        assert len(sides) == 6
+        with pytest.raises(shapes.ShapeError):
+            shapes.area_lines("a", [*square, (47.0005, 8.0005)], 0.0, 20.0, "inside")
+        assert (
+            len(prisms(shapes.area_lines("a", [*square, (47.0005, 8.0005)], 0.0, 20.0, "outside")))
+            == 3
+        )
+
+
+class TestLanes:
+    def test_drawn_legs_hold_their_line(self):
+        draw = random.Random(3)
+        for number in range(200):
+            start = (draw.uniform(-80, 80), draw.uniform(-179, 179), draw.uniform(0, 500))
+            end = (
+                start[0] + draw.uniform(-0.01, 0.01),
+                start[1] + draw.uniform(-0.01, 0.01),
+                start[2] + draw.uniform(-20, 20),
+            )
+            for purpose in ("outside", "inside"):
+                (sides,) = prisms(shapes.lane_lines("l", [start, end], 3.5, -1.0, 3.0, purpose))
+                for share in (0.01, 0.5, 0.99):
+                    at = [p + share * (q - p) for p, q in zip(start, end)]
+                    a, b = (
+                        earth_fixed(math.radians(p[0]), math.radians(p[1]), p[2])
+                        for p in (start, end)
+                    )
+                    assert holds(sides, um([p + share * (q - p) for p, q in zip(a, b)])), (
+                        number,
+                        purpose,
+                        share,
+                        at,
+                    )
+
+
+def drawn_boxes(draw, reach):
+    """Up to three boxes within a reach of the origin."""
+    ends = [
+        [sorted(draw.randint(-reach, reach) for _ in range(2)) for _ in range(3)]
+        for _ in range(draw.randint(0, 3))
+    ]
+    return [(tuple(e[0] for e in box), tuple(e[1] for e in box)) for box in ends]
+
+
+class TestAnswers:
+    def test_a_thousand_drawn_prisms_answer_as_all_corners_do(self):
+        draw = random.Random(4)
+        for number in range(DRAWN):
+            reach = draw.choice((3, 10**6, 10**13))
+            boxes = drawn_boxes(draw, reach)
+            sides = []
+            for _ in range(draw.randint(1, 4)):
+                a = (
+                    tuple(draw.randint(-5, 5) for _ in range(3))
+                    if reach == 3
+                    else tuple(draw.randint(-(2**20), 2**20) for _ in range(3))
+                )
+                if any(a):
+                    sides.append(
+                        (a, draw.randint(-sum(map(abs, a)) * reach, sum(map(abs, a)) * reach))
+                    )
+            flat = [(*lo, *hi) for lo, hi in boxes]
+            assert zones.Prism("a", sides).answer(flat) == answer(sides, boxes), (
+                number,
+                sides,
+                boxes,
+            )
+
+    def test_a_box_answers_as_the_prism_of_its_sides(self):
+        draw = random.Random(5)
+        for _ in range(DRAWN):
+            ends = [sorted(draw.randint(-4, 4) for _ in range(2)) for _ in range(3)]
+            sides = [
+                (tuple(s * (k == i) for i in range(3)), s * ends[k][s > 0])
+                for k in range(3)
+                for s in (-1, 1)
+            ]
+            flat = [(*lo, *hi) for lo, hi in drawn_boxes(draw, 4)]
+            box = zones.Box("a", (*(e[0] for e in ends), *(e[1] for e in ends)))
+            assert box.answer(flat) == zones.Prism("a", sides).answer(flat)
+
+    def test_lines_of_a_log(self):
+        text = "gpszones 2\nzone a 0 0 0 2 2 2\nprism b 1\nside 1 1 1 3\nreach c 2 0 -1\n"
+        log = [
+            (1, [(0, 0, 0, 1, 1, 1)]),
+            (2, None),
+            (3, []),
+            (4, [(0, 0, 0, 1, 1, 1), (5, 5, 5, 6, 6, 6)]),
+        ]
+        wanted = (
+            "epoch 1 zone a inside,epoch 1 zone b inside,epoch 1 reach c -1 2,epoch 2 few,epoch 3 zone a outside,"
+            "epoch 3 zone b outside,epoch 3 reach c none,epoch 4 zone a open,epoch 4 zone b open,epoch 4 reach c -1 7,"
+            "zone a outside 1 inside 1 open 1 few 1,zone b outside 1 inside 1 open 1 few 1,reach c -1 7"
+        ).split(",")
+        with tempfile.TemporaryDirectory() as folder:
+            path = Path(folder) / "zones"
+            path.write_text(text, encoding="utf-8")
+            assert list(zones.lines(*zones.read_zones(path), log)) == wanted
+
+    def test_the_first_line_that_does_not_fit(self):
+        zone = "gpszones 2\nzone a 0 0 0 1 1 1\n"
+        for text, line in (
+            ("", 1),
+            ("gpszones 2", 1),
+            ("gpszones 3\n", 1),
+            ("gpszones 1\nreach a 1 0 0\n", 2),
+            (zone + "zone a 0 0 0 1 1 1\n", 3),
+            ("gpszones 2\nprism a 0\n", 2),
+            ("gpszones 2\nprism a 17\n", 2),
+            ("gpszones 2\nprism a 2\nside 1 0 0 5\n", 4),
+            ("gpszones 2\nprism a 1\nside 0 0 0 5\n", 3),
+            ("gpszones 2\nprism a 1\nside 1 0 0 -0\n", 3),
+            ("gpszones 2\nprism a 1\nside 1 0 0 5", 3),
+            ("gpszones 2\nreach a 1048577 0 0\n", 2),
+            ("gpszones 2\nprism a 1\nside 1 0 0 100000000000000000001\n", 3),
+            (zone + "zone b 0 0 0 1 1 -1\n", 3),
+        ):
+            with tempfile.TemporaryDirectory() as folder:
+                path = Path(folder) / "zones"
+                path.write_text(text, encoding="utf-8")
+                with pytest.raises(zones.ZonesError, match=f"line {line} "):
+                    zones.read_zones(path)
+
+
+class TestFiles:
+    def test_kml_geojson_and_rows_say_the_same(self):
+        ring = [(47.0, 8.0, 0.0), (47.0, 8.001, 0.0), (47.001, 8.001, 0.0), (47.0, 8.0, 0.0)]
+        kml = "<kml xmlns='x'><Polygon><outerBoundaryIs><LinearRing><coordinates>{}</coordinates></LinearRing></outerBoundaryIs></Polygon></kml>"
+        texts = (
+            kml.format(" ".join(f"{p[1]},{p[0]}" for p in ring)),
+            json.dumps(
+                {
+                    "type": "Feature",
+                    "geometry": {"type": "Polygon", "coordinates": [[[p[1], p[0]] for p in ring]]},
+                }
+            ),
+            "".join(f"{p[0]} {p[1]}\n" for p in ring),
+        )
+        with tempfile.TemporaryDirectory() as folder:
+            written = []
+            for number, text in enumerate(texts):
+                path = Path(folder) / str(number)
+                path.write_text(text, encoding="utf-8")
+                written.append(
+                    said("--for", "outside", "--area", f"a,{path},0,20", "--reach", "r,47,8")
+                )
+        assert written[0] == written[1]
+        assert written[0] == written[2]
+        assert written[0][:2] == ["gpszones 2", "prism a 5"]
+        assert [line.split()[1] for line in written[0][-3:]] == ["r-e", "r-n", "r-u"]
+
+    def test_what_is_no_shape_is_refused_in_one_line(self):
+        with tempfile.TemporaryDirectory() as room:
+            for name, text, option, rest, told in NO_SHAPES:
+                path = Path(room) / name
+                path.write_text(text, encoding="utf-8")
+                for purpose in ("outside", "inside"):
+                    status, out, err = ended(shapes, "--for", purpose, option, f"a,{path},{rest}")
+                    assert (status, out) == (1, "")
+                    assert re.search(f"^gpslog zones: .*{told}.*\n$", err)
+
+    def test_numbers_that_are_none_or_too_large_are_refused_among_the_words(self):
+        for word in ("nan", "inf", "-inf", "1e400", "1e16", "x", ""):
+            for option, fields in (
+                ("--place", f"a,35,138,990,50,{word}"),
+                ("--place", f"a,{word},138,990,50,20"),
+                ("--area", f"a,none.json,{word},1150"),
+                ("--lane", f"a,none.json,120,-160,{word}"),
+                ("--reported", f"a,none,none,5,{word}"),
+                ("--reach", f"a,47,{word}"),
+            ):
+                status, out, err = ended(shapes, "--for", "inside", option, fields)
+                assert (status, out) == (2, "")
+                told = f"argument {option}: {word} isn't a number of at most 10^15 in amount\n"
+                assert err.endswith(told), err
+
+    def test_places_that_are_none_are_refused(self):
+        for fields, told in (
+            ("a,35,138,990,0,20", "two of its corners are one point"),
+            ("a,35,138,1e15,5,2", "too far away"),
+        ):
+            status, out, err = ended(shapes, "--for", "outside", "--place", fields)
+            assert (status, out) == (1, "")
+            assert re.search(f"^gpslog zones: .*{told}\n$", err)
+
+    def test_axes_are_those_of_the_ellipsoid(self):
+        assert shapes.reach_lines("r", 0, 0) == [
+            "reach r-e 0 1048576 0",
+            "reach r-n 0 0 1048576",
+            "reach r-u 1048576 0 0",
+        ]
+
+
+def drawn_lines(draw, name, boxes):
+    """The lines of a zone, a prism or a direction that is drawn round some boxes; faces that just touch one aren't seldom."""
+    hull = hull_of(boxes)
+    kind = draw.choice(("zone", "zone", "prism", "prism", "reach"))
+    if kind == "zone":
+        ends = draw.choice((hull, hull, draw.choice(boxes)))
+        moved = [
+            end + draw.choice((0, 0, 1, -1, draw.randint(-(10**8), 10**8))) for end in ends
+        ]
+        if any(moved[k] > moved[k + 3] for k in range(3)):
+            moved = ends
+        return [" ".join(map(str, ["zone", name, *moved]))]
+    sides = []
+    for _ in range(draw.randint(1, 5) if kind == "prism" else 1):
+        size = draw.choice((1, 5, shapes.LONGEST))
+        a = tuple(draw.randint(-size, size) for _ in range(3))
+        a = a if any(a) else (0, -size, 0)
+        ends = [
+            end for box in draw.choice((boxes, [draw.choice(boxes)])) for end in zones.span(a, box)
+        ]
+        most = draw.choice((max(ends), max(ends), min(ends))) + draw.choice(
+            (0, 0, 1, -1, size * draw.randint(-(10**8), 10**8))
+        )
+        sides.append((a, most))
+    if kind == "reach":
+        return ["reach {} {} {} {}".format(name, *sides[0][0])]
+    return [f"prism {name} {len(sides)}"] + [
+        "side {} {} {} {}".format(*a, most) for a, most in sides
+    ]
+
+
+class TestGuards:
+    """What the program says of a solved and of a tracked log."""
+
+    program = None
+
+    @classmethod
+    def setup_class(cls):
+        if cls.program is None:
+            return
+        folder = tempfile.TemporaryDirectory()
+        cls.addClassCleanup(folder.cleanup)
+        cls.folder = Path(folder.name)
+        text = (EXAMPLES / "settings.toml").read_text(encoding="utf-8")
+        text = re.sub(r"(?m)^bisections = .*$", "bisections = 64", text)
+        cls.settings = cls.folder / "settings.toml"
+        cls.settings.write_text(
+            text.replace("\n[bounds]\n", "\n[motion]\nspeed = 20000\n\n[bounds]\n"),
+            encoding="utf-8",
+        )
+        cls.files = [
+            str(EXAMPLES / "vehicle.obs"),
+            str(EXAMPLES / "vehicle.nav"),
+            str(cls.settings),
+        ]
+        cls.logs = {}
+        for command, options in (("solve", []), ("track", ["--track"])):
+            log = cls.folder / f"{command}.log"
+            subprocess.run(
+                [cls.program, command, *cls.files, log],
+                check=True,
+                stdout=subprocess.DEVNULL,
+                timeout=600,
+            )
+            cls.logs[log] = options
+
+    def setup_method(self):
+        if self.program is None:
+            self.skipTest("no program is named")
+
+    def expect_lines(self, path, log, options):
+        """The program and the script say the same, and this is what they say."""
+        ran = subprocess.run(
+            [self.program, "guard", *self.files, path, log, *options],
+            capture_output=True,
+            text=True,
+            timeout=600,
+        )
+        assert (ran.returncode, ran.stderr) == (0, "")
+        boxes = ((e.index, None if e.few else [kept.box for kept in e.kept]) for e in epochs(log))
+        wanted = list(zones.lines(*zones.read_zones(path), boxes))
+        assert ran.stdout == "".join(line + "\n" for line in wanted)
+        return wanted
+
+    def test_a_thousand_drawn_zones_on_both_logs(self):
+        draw, said = random.Random(6), set()
+        for log, options in self.logs.items():
+            regions = [[kept.box for kept in epoch.kept] for epoch in epochs(log) if epoch.kept]
+            for part in range(3):
+                count = DRAWN // 6 + 1
+                text = [
+                    line
+                    for k in range(count)
+                    for line in drawn_lines(draw, f"a{k}", draw.choice(regions))
+                ]
+                path = self.folder / "drawn.zones"
+                path.write_text(
+                    "".join(line + "\n" for line in ["gpszones 2", *text]), encoding="utf-8"
+                )
+                said |= {
+                    line.split()[-1]
+                    for line in self.expect_lines(path, log, options)
+                    if " zone " in line
+                }
+        assert said == {"outside", "inside", "open"}
+
+    def test_the_first_form_has_no_totals(self):
+        path = self.folder / "first.zones"
+        for log, options in self.logs.items():
+            hull = hull_of([kept.box for epoch in epochs(log) for kept in epoch.kept])
+            path.write_text(
+                "gpszones 1\nzone far 0 0 0 1 1 1\nzone all {} {} {} {} {} {}\n".format(*hull),
+                encoding="utf-8",
+            )
+            found = [line.split(" zone ")[1] for line in self.expect_lines(path, log, options)]
+            assert found == ["far outside", "all inside"] * 21
+
+    def test_lanes_areas_and_limits_of_the_vehicle(self):
+        lane = self.folder / "lane.txt"
+        lane.write_text(
+            "35.8729 138.3905 1010\n35.87275 138.3871 1010\n35.8648 138.3871 950\n",
+            encoding="utf-8",
+        )
+        for log, options in self.logs.items():
+            for purpose in ("inside", "outside"):
+                words = [
+                    "--lane",
+                    f"l,{lane},200,-300,300",
+                    "--reported",
+                    f"at,{PLACES},{log},100,250",
+                ]
+                words += ["--reach", "r,35.87,138.387"]
+                path = self.folder / "made.zones"
+                path.write_text(
+                    "".join(line + "\n" for line in said("--for", purpose, *words)),
+                    encoding="utf-8",
+                )
+                found = self.expect_lines(path, log, options)
+                # The places of another program are held by each region: so none is outside.
+                for index in range(1, 22):
+                    assert f"epoch {index} zone at-{index} outside" not in found

@@ -1,0 +1,1 @@
+"""Files of receivers whose places are known."""

@@ -1,0 +1,1 @@
+"""Tests of the tools, and of the program as a whole."""
