@@ -11,7 +11,11 @@ TOP = Path(__file__).resolve().parent
 
 def pytest_addoption(parser):
     """The options that tests of the built program and of the workflow have."""
-    parser.addoption("--program", metavar="PATH", help="the built program (that which ./gpscover runs, if it is there)")
+    parser.addoption(
+        "--program",
+        metavar="PATH",
+        help="the built program (that which ./gpscover runs, if it is there)",
+    )
     parser.addoption("--slurm", action="store_true", help="run the workflow's tests on a Slurm")
 
 
@@ -23,10 +27,14 @@ def pytest_configure():
 
 def path_of_wrapper():
     """The program that ./gpscover runs, or None where it would have to be proved and built first."""
-    told = subprocess.run([TOP / "gpscover", "--version"], capture_output=True, text=True, check=False).stdout
+    told = subprocess.run(
+        [TOP / "gpscover", "--version"], capture_output=True, text=True, check=False
+    ).stdout
     if "\nreleased: " not in told and "\nbuilt here: " not in told:
         return None
-    return subprocess.run([TOP / "gpscover", "--path"], capture_output=True, text=True, check=True).stdout.strip()
+    return subprocess.run(
+        [TOP / "gpscover", "--path"], capture_output=True, text=True, check=True
+    ).stdout.strip()
 
 
 @pytest.fixture(scope="session")
