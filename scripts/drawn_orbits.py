@@ -1,13 +1,14 @@
 #!/usr/bin/env python3
 """Compares rows of `gpscover solve` with numbers that the equations allow, for drawn ephemerides.
 
-usage: drawn_orbits.py [--program PATH] [--records N] [--seed N] [--zenith] [--vertical] [--above DEGREES]
+usage: drawn_orbits.py [--program PATH] [--records N] [--seed N] [--galileo MESSAGE] [--zenith] [--vertical]
+                       [--above DEGREES]
 
 Each file has twelve satellites, whose records are drawn from the whole range of every field, often from its ends, and a
 search box of up to 200 km on each side. For each row one choice of numbers is made as the equations of
 docs/EQUATIONS.md leave it, at a drawn point of the box, in exact fractions (`allowed` of second/sample.py). It has to
 lie in the row with W taken off at both ends, which has to be at most W wide, and a place between 19,900 and 52,300 km
-from the origin. With --zenith the settings have a drawn `bounds.zenith`, with --vertical a drawn `bounds.vertical`, and lo
+from the origin. With --galileo half of the satellites are of Galileo, by the message F/NAV or I/NAV. With --zenith the settings have a drawn `bounds.zenith`, with --vertical a drawn `bounds.vertical`, and lo
 and hi have to lie in the row's spans of them with G taken off, which have to be at most G wide. With --above only
 satellites are compared that are seen from that elevation on. The last line tells how many rows were compared, the
 greatest width beside W (and G), and how far out and how eccentric their orbits were. It isn't part of the gate.
@@ -44,7 +45,7 @@ class Drawn:
 
     def solve(self):
         """Draws files and solves them; the files as the second checker reads them, and the lines of the log."""
-        obs, nav, settings = compare.random_files(self.chance)
+        obs, nav, settings = compare.random_files(self.chance, self.arguments.galileo)
         if self.arguments.zenith:
             settings = compare.random_zenith(self.chance, settings)
         if self.arguments.vertical:
@@ -109,6 +110,7 @@ def main():
     parser.add_argument("--program", default=str(ROOT / "gpscover"))
     parser.add_argument("--records", type=int, default=10_000)
     parser.add_argument("--seed", type=int, default=1)
+    parser.add_argument("--galileo", choices=list(recheck.MESSAGES), help="the message of Galileo beside GPS")
     parser.add_argument("--zenith", action="store_true", help="map the troposphere by elevation")
     parser.add_argument("--vertical", action="store_true", help="map the ionosphere by elevation")
     parser.add_argument("--above", type=float, default=-90.0, metavar="DEGREES", help="compare satellites from there on")

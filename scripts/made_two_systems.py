@@ -1,14 +1,15 @@
 #!/usr/bin/env python3
 """Makes a receiver of GPS and Galileo whose place is known, and compares regions of both systems with those of GPS alone.
 
-usage: made_two_systems.py SEED EPOCHS [--folder FOLDER] [--program GPSCOVER] [--second]
+usage: made_two_systems.py SEED EPOCHS [--inav] [--single] [--folder FOLDER] [--program GPSCOVER] [--second]
 
 There are thirty satellites of GPS and twenty-four of Galileo, two of these on orbits of eccentricity 0.16. All fields of
-their records are drawn, and those of Galileo are of F/NAV; an I/NAV record of each stands behind, with another clock. An
-epoch, every 30 s, has the codes on two frequencies of all satellites above 10 degrees, by the equations of IS-GPS-200
-and of the Galileo OS SIS ICD in floating-point numbers: an ionosphere that the combination takes off, noise of up to 2 m,
-and for Galileo a difference of the two system times that is constant. The settings declare 2.5 m for the noise and 4 m
-for the difference.
+their records are drawn, and those of Galileo are of F/NAV, with --inav of I/NAV; a record of the other message stands behind
+each, with another clock. An epoch, every 30 s, has the codes on two frequencies of all satellites above 10 degrees, of Galileo
+those that go with the message, by the equations of IS-GPS-200 and of the Galileo OS SIS ICD in floating-point numbers: an
+ionosphere that the combination takes off, noise of up to 2 m, and for Galileo a difference of the two system times that is
+constant. The settings declare 2.5 m for the noise and 4 m for the difference. With --single, which goes with --inav, they take
+the first codes alone and declare 20 m for the ionosphere.
 
 For q = 0 to 2 files with q outliers of 500 m an epoch, the first of GPS and the second of Galileo, are solved by GPSCOVER
 (./gpscover) from FOLDER, or from a folder that is removed at the end, with both systems and with GPS alone. Each log is
@@ -35,9 +36,9 @@ from wgs84 import earth_fixed, elevation
 SECOND = Path(__file__).resolve().parent.parent / "second/recheck.py"
 TOE, START, STEP = 7200, 3600, 30  # in s of the week
 MASK, NOISE, OUTLIER, LEAP = math.radians(10), 2.0, 500.0, 3.9  # rad, and m
+MOST_DELAY = 20  # of the ionosphere, m
 ECCENTRIC = (14, 18)
-FNAV, INAV = 258, 517
-WRONG_CLOCK = 1e-5  # of the records of I/NAV, s
+WRONG_CLOCK = 1e-5  # of the records of the other message, s
 
 
 @dataclass
@@ -51,31 +52,32 @@ class System:
     slots: int
     root_axis: float  # m^(1/2)
     inclination: float
+    source: int = 1  # of its records' data
 
-    def satellites(self, draw):
-        """Its satellites with their drawn records."""
+    def satellites(self, draw, dual):
+        """Its satellites with their drawn records, for a user of two codes or of one."""
         for number in range(1, self.planes * self.slots + 1):
             slot, plane = divmod(number - 1, self.planes)
             node, mean = 2 * math.pi * plane / self.planes, 2 * math.pi * (slot + plane / self.planes) / self.slots
             orbit = self.root_axis, draw.uniform(0.0005, 0.02)
             if self.letter == "E" and number in ECCENTRIC:
                 orbit = 5289.6, 0.16
-            yield Satellite(self, f"{self.letter}{number:02}", record_lines(draw, self, number, orbit, node, mean))
+            yield Satellite(self, f"{self.letter}{number:02}", record_lines(draw, self, number, orbit, node, mean), dual)
 
 
-SYSTEMS = (
-    System("G", ("C1C", "C2W"), (5929, 3600), 6, 5, 5153.7, 0.96),
-    System("E", ("C1C", "C5Q"), (23716, 13225), 3, 8, 5440.6, 0.977),
-)
-HEADS = {
-    "obs": [
-        ("     3.05           OBSERVATION DATA    M", "RINEX VERSION / TYPE"),
-        *((f"{it.letter}    2 {' '.join(it.codes)}", "SYS / # / OBS TYPES") for it in SYSTEMS),
-        ("  2024     1     7     1     0    0.0000000     GPS", "TIME OF FIRST OBS"),
-        ("", "END OF HEADER"),
-    ],
-    "nav": [("     3.05           N: GNSS NAV DATA    M", "RINEX VERSION / TYPE"), ("", "END OF HEADER")],
+GPS = System("G", ("C1C", "C2W"), (5929, 3600), 6, 5, 5153.7, 0.96)
+MESSAGES = {
+    "F/NAV": System("E", ("C1C", "C5Q"), (23716, 13225), 3, 8, 5440.6, 0.977, 258),
+    "I/NAV": System("E", ("C1C", "C7Q"), (23716, 13924), 3, 8, 5440.6, 0.977, 517),
 }
+OBS_HEAD = [
+    ("     3.05           OBSERVATION DATA    M", "RINEX VERSION / TYPE"),
+    ("G    2 {}", "SYS / # / OBS TYPES"),
+    ("E    2 {}", "SYS / # / OBS TYPES"),
+    ("  2024     1     7     1     0    0.0000000     GPS", "TIME OF FIRST OBS"),
+    ("", "END OF HEADER"),
+]
+NAV_HEAD = [("     3.05           N: GNSS NAV DATA    M", "RINEX VERSION / TYPE"), ("", "END OF HEADER")]
 SETTINGS = """\
 [search]
 centre = [{}, {}, {}]
@@ -87,18 +89,18 @@ max_age = 7200
 pairs = true
 
 [signal]
-mode = "dual"
-codes = ["C1C", "C2W"]
+mode = "{}"
+codes = {}
 
 [bounds]
 receiver = [-2500, 2500]
 orbit_clock = [0, 0]
-ionosphere = [0, 0]
+ionosphere = [0, {}]
 troposphere = [0, 0]
 """
 GALILEO = """
 [galileo]
-codes = ["C1C", "C5Q"]
+codes = {}
 offset = [-4000, 4000]
 """
 
@@ -111,14 +113,13 @@ def record_lines(draw, system, number, orbit, node, mean):
         return draw.uniform(-size, size)
 
     root_axis, eccentricity = orbit
-    source = FNAV if system.letter == "E" else 1
     rows = [
         (about(5e-4), about(1e-11), 0),
         (number, about(150), draw.uniform(3e-9, 5e-9), math.remainder(mean + about(0.05), 2 * math.pi)),
         (about(5e-6), eccentricity, about(1e-5), root_axis),
         (TOE, about(2e-7), math.remainder(node + about(0.05), 2 * math.pi), about(2e-7)),
         (system.inclination + about(0.01), draw.uniform(150, 300), about(3), -8e-9 + about(5e-10)),
-        (about(5e-10), source, 2296, 0),
+        (about(5e-10), system.source, 2296, 0),
         (1, 0, about(1e-8), about(1e-8)),
         (TOE - 60, 0, 0, 0),
     ]
@@ -126,10 +127,10 @@ def record_lines(draw, system, number, orbit, node, mean):
     return [f"{system.letter}{number:02} 2024 01 07 02 00 00" + first, *("    " + line for line in more)]
 
 
-def inav_lines(lines):
-    """The record of I/NAV beside one of F/NAV: another clock."""
+def other_lines(lines, source):
+    """The record of the other message, from this source, beside one: another clock."""
     clock = float(lines[0][23:42].replace("D", "E")) + WRONG_CLOCK
-    first, sixth = lines[0][:23] + field(clock) + lines[0][42:], lines[5][:23] + field(INAV) + lines[5][42:]
+    first, sixth = lines[0][:23] + field(clock) + lines[0][42:], lines[5][:23] + field(source) + lines[5][42:]
     return [first, *lines[1:5], sixth, *lines[6:]]
 
 
@@ -138,9 +139,9 @@ def inav_lines(lines):
 class Satellite:
     """A made satellite."""
 
-    def __init__(self, system, name, lines):
+    def __init__(self, system, name, lines, dual):
         self.system, self.name, self.lines = system, name, lines
-        self.ephemeris = Record("\n".join(lines), dual=True)
+        self.ephemeris = Record("\n".join(lines), dual)
 
     def seen(self, receiver, tag, code):
         """The place in the frame of the arrival, and the corrected pseudorange less the range in m, for a pseudorange."""
@@ -168,14 +169,16 @@ class Satellite:
 
 
 class Made:
-    """The receiver and its satellites."""
+    """The receiver and its satellites, those of Galileo by a message."""
 
-    def __init__(self, seed):
+    def __init__(self, seed, message="F/NAV", dual=True):
         draw = random.Random(seed)
         where = draw.uniform(-1, 1), draw.uniform(-math.pi, math.pi), draw.uniform(0, 500)
+        self.message, self.dual = message, dual
         self.receiver = [round(axis) for axis in earth_fixed(*where)]
         self.leap = draw.uniform(-LEAP, LEAP)
-        self.satellites = [it for system in SYSTEMS for it in system.satellites(draw)]
+        self.systems = GPS, MESSAGES[message]
+        self.satellites = [it for system in self.systems for it in system.satellites(draw, dual)]
 
     def epoch(self, index, outliers, draw):
         """The lines of an epoch, counted from 0."""
@@ -189,7 +192,7 @@ class Made:
             if letter in wrong:
                 wrong.remove(letter)
                 code += draw.choice((-OUTLIER, OUTLIER))
-            lines.append(satellite.line(code, draw.uniform(2, 20)))
+            lines.append(satellite.line(code, draw.uniform(2, MOST_DELAY)))
         minutes, second = divmod(tag, 60)
         return [f"> 2024 01 07 {minutes // 60:02} {minutes % 60:02} {second:2}.0000000  0{len(lines):3}", *sorted(lines)]
 
@@ -198,19 +201,30 @@ class Made:
         draw = random.Random(count)
         obs = [line for index in range(count) for line in self.epoch(index, outliers, draw)]
         nav = [line for satellite in self.satellites for line in satellite.lines]
-        nav += [line for it in self.satellites if it.system.letter == "E" for line in inav_lines(it.lines)]
-        heads = {kind: [text.ljust(60) + label for text, label in lines] for kind, lines in HEADS.items()}
-        return {"obs": lines_of(heads["obs"] + obs), "nav": lines_of(heads["nav"] + nav)}
+        other = next(it.source for message, it in MESSAGES.items() if message != self.message)
+        nav += [line for it in self.satellites if it.system.letter == "E" for line in other_lines(it.lines, other)]
+        types = iter(self.systems)
+        head = [(text.format(" ".join(next(types).codes)) if "{}" in text else text, label) for text, label in OBS_HEAD]
+        return {"obs": text_of(head, obs), "nav": text_of(NAV_HEAD, nav)}
 
     def settings(self, outliers, both):
         """The settings, of both systems or of GPS alone."""
         centre = [1000 * axis + aside for axis, aside in zip(self.receiver, (7001, -5002, 3003))]
-        return SETTINGS.format(*centre, outliers) + (GALILEO if both else "")
+        gps, galileo = (listed(it.codes[:1 + self.dual]) for it in self.systems)
+        mode, delay = ("dual", 0) if self.dual else ("single", MOST_DELAY)
+        text = SETTINGS.format(*centre, outliers, mode, gps, 1000 * delay)
+        table = GALILEO if self.message == "F/NAV" else GALILEO.replace("codes", 'message = "I/NAV"\ncodes')
+        return text + (table.format(galileo) if both else "")
 
 
-def lines_of(lines):
-    """A text of lines."""
-    return "".join(line + "\n" for line in lines)
+def listed(codes):
+    """Codes as a list of the settings."""
+    return "[" + ", ".join(f'"{code}"' for code in codes) + "]"
+
+
+def text_of(head, lines):
+    """A text of a header and lines."""
+    return "".join(line + "\n" for line in [text.ljust(60) + label for text, label in head] + lines)
 
 
 # ---- the runs
@@ -244,7 +258,7 @@ def table_line(outliers, name, found):
 
 def compare(args, folder):
     """The lines of the table."""
-    made = Made(args.seed)
+    made = Made(args.seed, "I/NAV" if args.inav else "F/NAV", not args.single)
     yield "q  of    epochs  satellites  east m   north m    up m"
     for outliers in range(3):
         texts = made.texts(args.epochs, outliers)
@@ -264,12 +278,16 @@ def arguments():
     parser = argparse.ArgumentParser(description="A made receiver of two systems: regions of both and of GPS alone.")
     parser.add_argument("seed", metavar="SEED", type=int)
     parser.add_argument("epochs", metavar="EPOCHS", type=int, help="1 to 240")
+    parser.add_argument("--inav", action="store_true", help="Galileo by I/NAV on E1 and E5b (F/NAV on E1 and E5a)")
+    parser.add_argument("--single", action="store_true", help="with --inav: by one code of each satellite")
     parser.add_argument("--folder", help="where the files are kept")
     parser.add_argument("--program", default="./gpscover", help="the program (./gpscover)")
     parser.add_argument("--second", action="store_true", help="check by second/recheck.py too")
     args = parser.parse_args()
     if not 1 <= args.epochs <= 240:
         parser.error("EPOCHS is 1 to 240")
+    if args.single and not args.inav:
+        parser.error("--single goes with --inav")
     return args
 
 

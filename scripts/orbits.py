@@ -1,7 +1,8 @@
 """Where a satellite of GPS or Galileo is and what its clock shows, by its broadcast ephemeris, in floating-point numbers.
 
 The user algorithm is that of IS-GPS-200, section 20.3.3.3.3.1 and table 20-IV, which is that of the Galileo OS SIS ICD but
-for two constants. Lengths are in m, times in s, angles in rad; places are in the frame that turns with the earth.
+for two constants. A record of I/NAV has its group delay in another field (RINEX 3.05, table A8). Lengths are in m, times in s,
+angles in rad; places are in the frame that turns with the earth.
 """
 import datetime
 import math
@@ -13,6 +14,7 @@ MASS = {"G": 3.986005e14, "E": 3.986004418e14}
 RELATIVITY = {"G": -4.442807633e-10, "E": -4.442807309e-10}
 WEEK = 604800
 EPOCH = datetime.datetime(1980, 1, 6)
+INAV_CLOCK = 1 << 9  # the bit of a Galileo record's data source: a clock for E1 and E5b
 
 
 def number(text):
@@ -39,8 +41,9 @@ class Record:
         self.clock = [number(first[at : at + 19]) for at in (23, 42, 61)]
         lines = [[number(line[at : at + 19]) for at in (4, 23, 42, 61)] for line in rest]
         (_, crs, motion, self.mean), (cuc, self.ratio, cus, self.root), (toe, cic, node, cis) = lines[:3]
-        (self.tilt, crc, self.perigee, node_rate), (self.tilt_rate, *_), (_, health, delay, _) = lines[3:6]
-        self.delay = 0 if dual else delay
+        (self.tilt, crc, self.perigee, node_rate), (self.tilt_rate, source, *_), (_, health, *delays) = lines[3:6]
+        inav = text[0] == "E" and int(source) & INAV_CLOCK
+        self.delay = 0 if dual else delays[bool(inav)]
         # The amounts that go with the sine and the cosine of twice the angle from the node.
         self.waves = (cus, cuc), (crs, crc), (cis, cic)
         self.axis, self.healthy = self.root**2, health == 0

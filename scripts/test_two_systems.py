@@ -3,9 +3,10 @@
 
 usage: test_two_systems.py PROGRAM
 
-The files are those of made_two_systems.py, whose place is known. The expected lines are written here by hand. It takes a
-minute. The last line is `two systems: N passed, M failed`, and the status 1 where one failed.
+The files are those of made_two_systems.py, whose place is known. The expected lines are written here by hand. It takes two
+minutes. The last line is `two systems: N passed, M failed`, and the status 1 where one failed.
 """
+import random
 import re
 import subprocess
 import sys
@@ -20,6 +21,23 @@ from testing import run
 
 EPOCHS, OUTLIERS = 2, 2
 SPLITS = 32
+# Data sources of a record, and whether it is one of I/NAV: bit 9 is set, and one of 0 and 2, and 1 and 8 are clear.
+INAV_SOURCES = {True: (513, 516, 517, 525, 645), False: (0, 5, 258, 261, 512, 514, 515, 519, 773, 1541, -517, 517.5, 1e30)}
+# Healths of one, and whether it is healthy: the bits 0 to 2 and 6 to 8 are clear.
+INAV_HEALTHS = {True: (8, 16, 56), False: (1, 2, 4, 9, 64, 128, 256, 512, -8, 8.5)}
+
+
+def with_splits(settings, splits=SPLITS):
+    """Settings with few splits."""
+    return re.sub("(?m)^bisections = .*$", f"bisections = {splits}", settings)
+
+
+def with_field(nav, satellite, line, value):
+    """A navigation file in which the second field of a line of the first record of a satellite is a number."""
+    lines = nav.splitlines(keepends=True)
+    at = next(k for k, text in enumerate(lines) if text.startswith(satellite)) + line
+    lines[at] = lines[at][:23] + f"{value:19.12E}".replace("E", "D") + lines[at][42:]
+    return "".join(lines)
 
 
 class TwoSystems(unittest.TestCase):
@@ -37,7 +55,13 @@ class TwoSystems(unittest.TestCase):
 
     def settings(self, both=True):
         """The settings, with few splits."""
-        return re.sub("(?m)^bisections = .*$", f"bisections = {SPLITS}", self.made.settings(OUTLIERS, both))
+        return with_splits(self.made.settings(OUTLIERS, both))
+
+    @staticmethod
+    def by_inav(dual=True):
+        """A receiver by I/NAV and its texts."""
+        made = made_two_systems.Made(1, "I/NAV", dual)
+        return made, made.texts(EPOCHS, OUTLIERS) | {"toml": with_splits(made.settings(OUTLIERS, True))}
 
     def written(self, **changed):
         """The names of the files and of a log. Texts are given for those that are changed."""
@@ -80,6 +104,41 @@ class TwoSystems(unittest.TestCase):
             self.assertEqual({name[0] for name in names}, {"E", "G"})
             self.assertIn("E14", names)  # whose orbit has the eccentricity 0.16
             self.assertFalse(epoch.skips)
+
+    def test_the_place_is_held_by_inav(self):
+        """By both codes and by the first one, though the F/NAV record of each satellite has another clock."""
+        for dual in (True, False):
+            made, texts = self.by_inav(dual)
+            _, found = self.solved(**texts)
+            self.assertEqual(len(found), EPOCHS)
+            for epoch in found:
+                self.assertTrue(is_held(epoch, made.receiver))
+                self.assertEqual({row.satellite[0] for row in epoch.rows}, {"E", "G"})
+                self.assertFalse(epoch.skips)
+
+    def test_records_of_both_messages_in_any_order(self):
+        """The log is that of the records of I/NAV alone, with either end of a line."""
+        _, texts = self.by_inav()
+        head, *records = re.split(r"(?m)^(?=[GE])", texts["nav"])
+        kept = [record for record in records if " 2.580000000000D+02" not in record]
+        self.assertEqual(len(records) - len(kept), 24)
+        logs = []
+        for number, end in enumerate(("\n", "\r\n", "\n")):
+            drawn = random.Random(number).sample(records, len(records)) if number else kept
+            files, _ = self.solved(**texts | {"nav": (head + "".join(drawn)).replace("\n", end)})
+            logs.append(Path(files[-1]).read_bytes())
+        self.assertEqual(logs[1:], logs[:1] * 2)
+
+    def test_sources_and_healths_of_inav(self):
+        """The record of E11 has a data source, and then a health, by which it is kept, and healthy, or not."""
+        made, texts = self.by_inav()
+        texts |= made.texts(1, OUTLIERS) | {"toml": with_splits(texts["toml"], 0)}
+        for line, reason, table in ((5, "3", INAV_SOURCES), (6, "4", INAV_HEALTHS)):
+            for value, used in ((value, used) for used, values in table.items() for value in values):
+                with self.subTest(line=line, value=value):
+                    _, (epoch,) = self.solved(**texts | {"nav": with_field(texts["nav"], "E11", line, value)})
+                    self.assertEqual("E11" in [row.satellite for row in epoch.rows], used)
+                    self.assertEqual(epoch.skips, [] if used else [("E11", reason, "")])
 
     def test_without_the_table_nothing_of_galileo_is_read(self):
         """The log is that of files from which the lines of Galileo were taken, whatever stands in them."""
@@ -154,6 +213,10 @@ class TwoSystems(unittest.TestCase):
             ("toml", toml.replace("offset = [-4000, 4000]\n", ""), "settings 31 Missing galileo.offset"),
             ("toml", toml.replace("[-4000, 4000]", "[1, 0]"), "settings 33 Outside galileo.offset"),
             ("toml", toml.replace('"dual"', '"single"').replace(', "C2W"', ""), "settings 33 Outside galileo.codes"),
+            ("toml", toml.replace("[galileo]", '[galileo]\nmessage = "I/NAV"'), "settings 33 Outside galileo.codes"),
+            ("toml", toml.replace("[galileo]", '[galileo]\nmessage = "INAV"'), "settings 33 Outside galileo.message"),
+            ("toml", toml.replace("[galileo]", '[galileo]\nmessage = 1'), "settings 32 WrongKind galileo.message"),
+            ("obs", obs.replace("C1C C5Q", "C1C C7Q"), "obs 16 CodeAbsent line 5"),
             ("toml", toml + "sign = 1\n", "settings 34 Unknown galileo.sign"),
             ("toml", self.settings(both=False) + "[satellite]\nE01 = [0, 1]\n", "settings 34 Unknown satellite.E01"),
         )

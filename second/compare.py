@@ -490,9 +490,9 @@ def small_files(bisections, epochs=1):
     return first_epochs(obs, epochs), nav, settings
 
 
-def both_files(bisections):
-    """An epoch of a made receiver of GPS and Galileo, the records of its satellites, and settings."""
-    made = made_two_systems.Made(1)
+def both_files(bisections, message):
+    """An epoch of a made receiver of GPS and Galileo by a message, the records of its satellites, and settings."""
+    made = made_two_systems.Made(1, message)
     texts = made.texts(1, 0)
     head, *records = re.split(r"(?m)^(?=[GE])", texts["nav"])
     seen = set(re.findall(r"(?m)^[GE]\d\d(?=  )", texts["obs"]))
@@ -529,7 +529,7 @@ def bases(data):
          settings("javad_2011_single.toml")],
         [*small_files(8)[:2], with_zenith(small_files(8)[2])],
         [*small_files(8)[:2], with_renewed_rows(small_files(8)[2])],
-        list(both_files(8)),
+        *(list(both_files(8, message)) for message in recheck.MESSAGES),
     ]
 
 
@@ -747,12 +747,22 @@ def random_field(chance, bound):
     return b".%0*dD%+03d" % (digits, mantissa, exponent)
 
 
-def random_files(chance):
-    """Observation, navigation and settings files with records drawn from all that the bounds of the fields allow."""
+# Of a message of Galileo: a second code, data sources by which a record is kept, and healths that are healthy.
+GALILEO = {"F/NAV": ("C5Q", b"258 770 1023", b"0"), "I/NAV": ("C7Q", b"513 516 517 765", b"0 8 16 56")}
+
+
+def random_files(chance, message=None):
+    """Observation, navigation and settings files with records drawn from all that the bounds of the fields allow.
+
+    With a message half of the satellites are of Galileo, by two codes where it is F/NAV.
+    """
     dual, half = chance.random() < 0.5, chance.choice((1, 1, 1000, 200_000, 10**7, 10**8))
-    nav = b"     3.05           N".ljust(40) + b"G".ljust(20) + b"RINEX VERSION / TYPE\n" + b"END OF HEADER\n".rjust(74)
-    obs = (b"     3.05           O".ljust(40) + b"G".ljust(20) + b"RINEX VERSION / TYPE\n"
-           + b"G    2 C1C C2W".ljust(60) + b"SYS / # / OBS TYPES\n" + b"END OF HEADER\n".rjust(74)
+    dual = dual or message == "F/NAV"
+    types = [b"G    2 C1C C2W"] + [b"E    2 C1C " + GALILEO[name][0].encode() for name in GALILEO if name == message]
+    letter = b"M" if message else b"G"
+    nav = b"     3.05           N".ljust(40) + letter.ljust(20) + b"RINEX VERSION / TYPE\n" + b"END OF HEADER\n".rjust(74)
+    obs = (b"     3.05           O".ljust(40) + letter.ljust(20) + b"RINEX VERSION / TYPE\n"
+           + b"".join(line.ljust(60) + b"SYS / # / OBS TYPES\n" for line in types) + b"END OF HEADER\n".rjust(74)
            + b"> 2030 06 05 %02d 00 %10.7f  0 12\n" % (chance.randrange(24), chance.random() * 59))
     hour = int(re.search(rb"> 2030 06 05 (\d\d)", obs).group(1))
     for satellite in range(1, 13):
@@ -761,12 +771,17 @@ def random_files(chance):
         fields[3, 0] = b"%d.%s" % (toe, b"%07d" % chance.randrange(10**7)) if chance.random() < 0.5 else b"%d" % toe
         day = chance.choice((2, 3, 4, 5, 6, 7, 8))
         fields[0, 0] = b""
-        nav += b"G%02d 2030 06 %02d %02d 00 00" % (satellite, day, hour if day < 8 else 0)
+        letter = b"E" if message and satellite > 6 else b"G"
+        if letter == b"E":
+            _, sources, healths = GALILEO[message]
+            fields[5, 1], fields[6, 1] = chance.choice(sources.split()), chance.choice(healths.split())
+            fields[6, 3] = random_field(chance, recheck.FIELDS[-1][3])
+        nav += letter + b"%02d 2030 06 %02d %02d 00 00" % (satellite, day, hour if day < 8 else 0)
         for line in range(8):
             nav += b"    " * (line > 0) + b"".join(
                 fields.get((line, place), b"0" * (line > 0)).rjust(19) for place in range(line == 0, 4)) + b"\n"
         metres = chance.uniform(15_000_100, 39_999_900)
-        obs += b"G%02d%14.*f  %14.3f\n" % (satellite, chance.choice((3, 3, 5)), metres,
+        obs += letter + b"%02d%14.*f  %14.3f\n" % (satellite, chance.choice((3, 3, 5)), metres,
                                           metres + chance.uniform(-50, 50))
     def whole(bound):
         return chance.choice((-bound, bound, chance.randint(-bound, bound)))
@@ -786,6 +801,9 @@ orbit_clock = [0, 0]
 ionosphere = [0, 0]
 troposphere = [0, 0]
 """
+    if message:
+        codes = f'"C1C", "{GALILEO[message][0]}"' if dual else '"C1C"'
+        settings += f'[galileo]\nmessage = "{message}"\ncodes = [{codes}]\noffset = [-1000, 2000]\n'
     return obs, nav, settings.encode()
 
 

@@ -491,6 +491,7 @@ def pair_settings_cases(folder):
 
 # By the mode and what stands behind the other tables of the settings: the first fault.
 GALILEO = '[galileo]\ncodes = ["C1C", "C5Q"]\noffset = [-3, 5]\n'
+INAV = GALILEO.replace("C5Q", "C7Q") + 'message = "I/NAV"\n'
 BOTH_CASES = (
     ("dual", GALILEO, None),
     ("dual", GALILEO.replace('"C1C", ', ""), "33 Outside galileo.codes"),
@@ -503,6 +504,25 @@ BOTH_CASES = (
     ("dual", GALILEO.replace("-3", "-1000001"), "33 Outside galileo.offset"),
     ("dual", GALILEO.replace("-3", "6"), "33 Outside galileo.offset"),
     ("dual", GALILEO + "sign = 1\n", "34 Unknown galileo.sign"),
+    ("dual", GALILEO + 'message = "F/NAV"\n', None),
+    ("dual", GALILEO + 'message = "I/NAV"\n', "33 Outside galileo.codes"),
+    ("dual", INAV, None),
+    ("dual", INAV.replace("C7Q", "C7X"), None),
+    ("dual", INAV.replace("C7Q", "C5Q"), "33 Outside galileo.codes"),
+    ("dual", INAV.replace(', "C7Q"', ""), "33 Outside galileo.codes"),
+    ("dual", INAV.replace("I/NAV", "F/NAV"), "33 Outside galileo.codes"),
+    ("dual", INAV.replace("I/NAV", "i/nav"), "33 Outside galileo.message"),
+    ("dual", INAV.replace("I/NAV", "INAV").replace("C7Q", "C2W"), "33 Outside galileo.message"),
+    ("dual", INAV.replace('"I/NAV"', "1").replace("C7Q", "C2W"), "32 WrongKind galileo.message"),
+    ("dual", INAV.replace('"I/NAV"', '["I/NAV"]'), "32 WrongKind galileo.message"),
+    ("dual", INAV.replace("message", "messages"), "33 Outside galileo.codes"),
+    ("dual", '[galileo]\nmessage = "I/NAV"\n', "31 Missing galileo.codes"),
+    ("single", INAV, "33 Outside galileo.codes"),
+    ("single", INAV.replace(', "C7Q"', ""), None),
+    ("single", INAV.replace(', "C7Q"', "").replace("I/NAV", "F/NAV"), "33 Outside galileo.codes"),
+    ("single", INAV.replace(', "C7Q"', "").replace("I/NAV", ""), "33 Outside galileo.message"),
+    ("single", INAV.replace(', "C7Q"', "").replace("-3", "6"), "33 Outside galileo.offset"),
+    ("single", INAV.replace(', "C7Q"', "") + "[satellite]\nE99 = [0, 1]\n", None),
     ("dual", GALILEO + "[satellite]\nE99 = [0, 1]\nG01 = [0, 1]\n", None),
     ("dual", GALILEO + "[satellite]\nG01 = [1, 0]\nE99 = [1, 0]\n", "33 Outside satellite.E99"),
     ("dual", GALILEO + "[satellite]\nE00 = [0, 1]\n", "34 Unknown satellite.E00"),
@@ -516,10 +536,15 @@ BOTH_CASES = (
     ("dual", "[motion]\nspeed = 1000001\n", "33 Outside motion.speed"),
     ("dual", "[motion]\n", None),
 )
-# What the second field of line 5 of a Galileo record says, and whether the record is kept: bits 1 and 8.
-SOURCES = (("258", True), ("259", True), ("262", True), ("1023", True), ("1282", False), ("2", False), ("256", False),
-           ("257", False), ("513", False), ("516", False), ("517", False), ("770", True), ("0", False), ("-258", False),
-           ("258.5", False), ("2.58E2", True))
+# What the second field of line 5 of a Galileo record says, by the messages that keep the record: F/NAV by the bits 1 and 8,
+# I/NAV by 9 and one of 0 and 2 where 1 and 8 are clear.
+SOURCES = {
+    "F/NAV": "258 259 262 770 771 774 1023 2.58E2",
+    "I/NAV": "513 516 517 525 637 645 653 765 5.17E2",
+    "": "0 1 2 5 256 257 260 261 512 514 515 518 519 769 772 773 1282 1541 -258 -517 258.5 517.000001 1024 1E30",
+}
+# Healths of a Galileo record that are healthy by I/NAV, and such as aren't: the bits 0 to 2 are E1's, 6 to 8 E5b's.
+HEALTHS = {True: "0 8 16 24 32 40 48 56 1.6E1", False: "1 2 4 7 9 17 57 64 72 128 256 320 512 1024 1032 -8 8.5 1E30"}
 
 
 def both_values():
@@ -536,16 +561,29 @@ def both_values():
     common = settings.bounds
     for name, own in ((b"G05", [0, 0]), (b"E06", [-3000, 5000]), (b"E05", [-10_000, 16_000])):
         yield f"bounds of {name}", settings.bounds_of(name), [end + more for end, more in zip(common, own)]
-    galileo = recheck.SYSTEMS[b"E"]
-    for source, wanted in SOURCES:
-        record = recheck.Record(galileo, 0, {"toe": 0, "source": recheck.decimal(source.encode(), exponent=True)})
-        yield f"source {source}", record.is_kept(), wanted
-    yield "a record of GPS", recheck.Record(recheck.SYSTEMS[b"G"], 0, {"toe": 0}).is_kept(), True
-    # 23716 * 20000000 - 13225 * 20000005, over 10491, is 19999993.6969783..
-    measured = recheck.pseudorange([recheck.Fraction(20_000_000), recheck.Fraction(20_000_005)], galileo.weights)
-    yield "a combination", int(measured * 10**6), 19_999_993_696_978
+    yield from message_values()
+
+
+def message_values():
+    """(what, found, wanted) of records by each message, and of the two codes' combination."""
+    fnav, inav = recheck.MESSAGES["F/NAV"], recheck.MESSAGES["I/NAV"]
+    for message, system in recheck.MESSAGES.items():
+        for keeps, source in ((keeps, source) for keeps, sources in SOURCES.items() for source in sources.split(" ")):
+            record = recheck.Record(system, 0, {"toe": 0, "source": recheck.decimal(source.encode(), exponent=True)})
+            yield f"source {source} by {message}", record.is_kept(), keeps == message
+    for healthy, health in ((healthy, health) for healthy, healths in HEALTHS.items() for health in healths.split(" ")):
+        values = {"toe": 0, "health": recheck.decimal(health.encode(), exponent=True)}
+        yield f"health {health}", recheck.Record(inav, 0, values).is_healthy(), healthy
+        for system in (fnav, recheck.GPS):
+            yield f"health {health}", recheck.Record(system, 0, values).is_healthy(), health == "0"
+    yield "a record of GPS", recheck.Record(recheck.GPS, 0, {"toe": 0}).is_kept(), True
+    # 23716 * 20000000 - 13225 * 20000005, over 10491, is 19999993.6969783..; with 13924 over 9792 19999992.8901143..
+    for system, wanted in ((fnav, 19_999_993_696_978), (inav, 19_999_992_890_114)):
+        measured = recheck.pseudorange([recheck.Fraction(20_000_000), recheck.Fraction(20_000_005)], system.weights)
+        yield "a combination", int(measured * 10**6), wanted
     # The root of mu * 10^116 over the sixth power of 5440.6 * 10^12, and by the mu of GPS.
-    for system, wanted in ((galileo, 1_239_733_955_228_326_673), (recheck.SYSTEMS[b"G"], 1_239_734_045_735_644_270)):
+    for system, wanted in ((fnav, 1_239_733_955_228_326_673), (inav, 1_239_733_955_228_326_673),
+                           (recheck.GPS, 1_239_734_045_735_644_270)):
         yield "a mean motion", recheck.isqrt(system.mu * 10**116 // 5_440_600_000_000_000**6), wanted
 
 
