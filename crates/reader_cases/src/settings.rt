@@ -31,7 +31,7 @@ fn print_settings(rt: &HostRuntime, settings: &Settings) -> io::Result<()> {
         "{:?} {} {} {:?}",
         settings.rules, settings.max_age, settings.renew, settings.speed
     )?;
-    println!(rt; "{:?} {:?}", settings.signal, settings.galileo_signal())?;
+    println!(rt; "{:?} {:?}", settings.signal, settings.galileo_use())?;
     println!(rt; "{:?} {:?}", settings.centre, settings.root(Some(HEADER)))?;
     println!(rt; "{:?}", settings.delays)?;
     for (system, number) in [(b'G', 5), (b'G', 6), (b'E', 5), (b'E', 6)] {

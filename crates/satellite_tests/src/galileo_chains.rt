@@ -4,7 +4,7 @@ ghost use Rattle.std.specs.Prelude.{◌≡◌};
 
 use fix_interval::Exact;
 use galileo_rows::{gal_dual, gal_motion};
-use gnss_model::Elements;
+use gnss_model::{Elements, Message};
 use grid_model::Wide;
 use std::test::Fail;
 
@@ -57,7 +57,7 @@ fn holds(x: Exact, n: i128) -> bool {
 fn mean_motion_of_galileo(rt: HostRuntime) {
     // The whole-number root of mu * 10^116 / S^6 by Python's `isqrt`, and the correction. By the mu
     // of GPS it is 1239734045735644270, which isn't held.
-    let held = gal_motion(&usual());
+    let held = gal_motion(&usual(), Message::Inav);
     assert!(rt; holds(held, 1_239_733_955_228_326_673 + 45_000_000_000_000));
     assert!(rt; !holds(held, 1_239_734_045_735_644_270 + 45_000_000_000_000));
 }
@@ -67,9 +67,21 @@ fn ionosphere_free_range(rt: HostRuntime) -> Result<(), Fail> {
     // 23716 * 20000000000000 - 13225 * 20000005000000, over 10491, is 19999993696978.4.
     let first = exact(20_000_000_000_000);
     let second = exact(20_000_005_000_000);
-    let free = gal_dual(first, second);
+    let free = gal_dual(first, second, Message::Fnav);
     assert!(rt; holds(free, 19_999_993_696_978));
     assert!(rt; holds(free, 19_999_993_696_979));
+    assert!(rt; free.hi - free.lo <= 8);
+    Ok(())
+}
+
+#[test]
+fn ionosphere_free_range_of_e5b(rt: HostRuntime) -> Result<(), Fail> {
+    // 23716 * 20000000000000 - 13924 * 20000005000000, over 9792, is 19999992890114.3.
+    let first = exact(20_000_000_000_000);
+    let second = exact(20_000_005_000_000);
+    let free = gal_dual(first, second, Message::Inav);
+    assert!(rt; holds(free, 19_999_992_890_114));
+    assert!(rt; holds(free, 19_999_992_890_115));
     assert!(rt; free.hi - free.lo <= 8);
     Ok(())
 }
