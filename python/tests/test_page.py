@@ -15,7 +15,6 @@ from base64 import b64decode
 from pathlib import Path
 from unittest import mock
 
-import browser
 import pytest
 from made_logs import RECORDED, ended, ended_with
 
