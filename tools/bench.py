@@ -53,6 +53,7 @@ CHANGE = 0.02
 
 # ---- runs
 
+
 def recorded_sets(folder):
     """The recorded files of a folder: for each name its observations, navigation and settings."""
     sets = {}
@@ -145,6 +146,7 @@ def commit():
 
 
 # ---- tables
+
 
 def written(measure, number):
     """A number of a measure with its unit."""

@@ -25,7 +25,9 @@ NOT_RUN = "receiver.ubx"
 
 def typed(commands):
     """What the commands print."""
-    ran = subprocess.run(["bash", "-c", commands], stdout=subprocess.PIPE, stderr=subprocess.STDOUT, text=True)
+    ran = subprocess.run(
+        ["bash", "-c", commands], stdout=subprocess.PIPE, stderr=subprocess.STDOUT, text=True
+    )
     return ran.stdout.rstrip()
 
 
@@ -47,7 +49,9 @@ def renewed(found):
 def main():
     page = PAGE.read_text(encoding="utf-8")
     new = BLOCK.sub(renewed, page)
-    for line in difflib.unified_diff(page.splitlines(), new.splitlines(), "shown", "printed", lineterm="", n=0):
+    for line in difflib.unified_diff(
+        page.splitlines(), new.splitlines(), "shown", "printed", lineterm="", n=0
+    ):
         print(line)
     if "--write" in sys.argv[1:]:
         PAGE.write_text(new, encoding="utf-8")

@@ -235,7 +235,11 @@ def lines_of(path):
 
 def comment_above(lines, at, mark):
     """Where the comment right above a line begins."""
-    while at > 0 and lines[at - 1].lstrip().startswith(mark) and not lines[at - 1].lstrip().startswith(f"{mark} ----"):
+    while (
+        at > 0
+        and lines[at - 1].lstrip().startswith(mark)
+        and not lines[at - 1].lstrip().startswith(f"{mark} ----")
+    ):
         at -= 1
     return at
 
@@ -288,7 +292,11 @@ def clause(path, name):
     lines = lines_of(path)
     for at, line in enumerate(lines):
         if re.match(rf"\s*ensures {re.escape(name)} ", line):
-            end = next(k for k in range(at + 1, len(lines)) if re.match(r"\s*(ensures|requires|//|\{|$)", lines[k]))
+            end = next(
+                k
+                for k in range(at + 1, len(lines))
+                if re.match(r"\s*(ensures|requires|//|\{|$)", lines[k])
+            )
             return lines[comment_above(lines, at, "//") : end]
     raise Gone(f"{path}: no clause {name}")
 

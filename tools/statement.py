@@ -22,9 +22,15 @@ from gpscover.command import run_tool
 from gpscover.errors import Error
 
 CRATES = Path(__file__).resolve().parents[1] / "crates"
-STARTS = ("cover_run.Runs.checking", "cover_run.Checking.Accepts", "paving_log_check.FileCover.FileCover")
+STARTS = (
+    "cover_run.Runs.checking",
+    "cover_run.Checking.Accepts",
+    "paving_log_check.FileCover.FileCover",
+)
 USE = re.compile(r"^use Rattle\.(\w+)\.specs\.([\w.]+?)(?:\.\{([^}]*)\}| as (\w+))\s*$", re.M)
-BEGINS = re.compile(r"^\s*(?:abbrev |unfoldable )?(?:pub )?(?:record |data )?(?:pub )?([A-Za-z_]\w*)\b")
+BEGINS = re.compile(
+    r"^\s*(?:abbrev |unfoldable )?(?:pub )?(?:record |data )?(?:pub )?([A-Za-z_]\w*)\b"
+)
 WORD = re.compile(r"[A-Za-z_]\w*(?:\.[A-Za-z_]\w*)*")
 
 
@@ -40,10 +46,16 @@ class File:
 
     def __init__(self, crate, name):
         text = spec_path(crate, name).read_text(encoding="utf-8")
-        self.lines = [line for line in text.splitlines() if line.strip() and not line.lstrip().startswith("use ")]
+        self.lines = [
+            line
+            for line in text.splitlines()
+            if line.strip() and not line.lstrip().startswith("use ")
+        ]
         self.imports = {}  # by the name here: the crate, the file and the name there
         self.files = {}  # by the name of a whole file here: the crate and the file
-        self.types = {}  # by the name of a type, of a variant, or of all variants: the crate, the source's file and the type
+        self.types = (
+            {}
+        )  # by the name of a type, of a variant, or of all variants: the crate, the source's file and the type
         self.definitions = dict(blocks(text))
         for found, path, names, whole in USE.findall(text):
             self.add(found, path.split("."), list(renamed(names)), whole)
@@ -52,7 +64,9 @@ class File:
         """Takes an import: of names of a file or a type, or of a whole file, or of the variants of a type."""
         if path[0] == "declared":
             *folders, kind = path[1:-1] if path[-1] == "TheVariants" else path[1:]
-            self.types |= dict.fromkeys([whole] if whole else [here for here, _ in names], (crate, "/".join(folders), kind))
+            self.types |= dict.fromkeys(
+                [whole] if whole else [here for here, _ in names], (crate, "/".join(folders), kind)
+            )
         elif spec_path(crate, path[0]).exists():
             self.imports |= {here: (crate, path[0], there) for here, there in names}
             self.files |= {whole: (crate, path[0])} if whole else {}
@@ -92,7 +106,9 @@ def names_in(lines):
         if record is not None and depth > record:
             continue
         record = depth if re.match(r"\s*(pub )?record\b", line) else None
-        if re.match(r"\s*(abbrev|unfoldable|pub|record|data)\b", line) and (found := BEGINS.match(line)):
+        if re.match(r"\s*(abbrev|unfoldable|pub|record|data)\b", line) and (
+            found := BEGINS.match(line)
+        ):
             yield found.group(1)
 
 
@@ -123,7 +139,9 @@ def reached(start):
         if lines is None:
             continue
         names[(crate, module, id(lines))] = lines
-        for word in dict.fromkeys(WORD.findall("\n".join(line for line in lines if not line.lstrip().startswith("--")))):
+        for word in dict.fromkeys(
+            WORD.findall("\n".join(line for line in lines if not line.lstrip().startswith("--")))
+        ):
             kind, there = here.meant(word) or ("name", (crate, module, word.partition(".")[0]))
             if kind == "name":
                 waiting.append(there)
@@ -146,7 +164,11 @@ def lines_of(parts):
 def told(start):
     """The line of a definition. Error where it isn't there."""
     key = tuple(start.split("."))
-    if len(key) != 3 or not spec_path(*key[:2]).exists() or key[2] not in File(*key[:2]).definitions:
+    if (
+        len(key) != 3
+        or not spec_path(*key[:2]).exists()
+        or key[2] not in File(*key[:2]).definitions
+    ):
         raise Error(f"no definition {start}")
     files, names, types = reached(key)
     return (
@@ -178,6 +200,7 @@ PARTS = (
         " no too.",
     ),
 )
+
 
 def code(lines):
     """Lines as a frame."""
@@ -225,11 +248,17 @@ def part(title, text, names, types):
     """A part of the page: its definitions file by file, then the types of the sources."""
     lines = [f"## {title}\n", textwrap.fill(text, 118) + "\n"]
     for (crate, module), ids in by_file(names).items():
-        lines += [f"`crates/{crate}/specs/{module}.antt`\n", code(definitions(crate, module, ids, names))]
+        lines += [
+            f"`crates/{crate}/specs/{module}.antt`\n",
+            code(definitions(crate, module, ids, names)),
+        ]
     lines += ["### Types of the sources\n"] if types else []
     for (crate, module), kinds in by_file(types).items():
         declared = [[*types[(crate, module, kind)], ""] for kind in kinds]
-        lines += [f"`crates/{crate}/src/{module}.rt`\n", code([line for each in declared for line in each][:-1])]
+        lines += [
+            f"`crates/{crate}/src/{module}.rt`\n",
+            code([line for each in declared for line in each][:-1]),
+        ]
     return lines
 
 

@@ -4,7 +4,9 @@ import json
 import os
 import shutil
 import subprocess
+from collections.abc import Iterable, Sequence
 from pathlib import Path
+from typing import Any
 
 PIECE = 1 << 20
 GZIP, COMPRESS = b"\x1f\x8b", b"\x1f\x9d"  # what .gz and .Z begin with
@@ -15,7 +17,7 @@ class StepError(Exception):
     """What ended a step; its text is the end of one line for the user."""
 
 
-def digest(path):
+def digest(path: str | Path) -> dict[str, Any]:
     """Size and checksum of a file."""
     sums, size = hashlib.sha256(), 0
     with open(path, "rb") as file:
@@ -25,7 +27,7 @@ def digest(path):
     return {"bytes": size, "sha256": sums.hexdigest()}
 
 
-def settle(path, target):
+def settle(path: str, target: str) -> None:
     """Gives a whole file its own name, once it is on the disk."""
     with open(path, "rb+") as file:
         os.fsync(file.fileno())
@@ -33,23 +35,25 @@ def settle(path, target):
     os.replace(path, target)
 
 
-def write_json(path, value):
+def write_json(path: str | Path, value: Any) -> None:
     """Writes a value with sorted keys, so that equal values are equal bytes."""
     Path(path).write_text(json.dumps(value, indent=1, sort_keys=True) + "\n", encoding="utf-8")
 
 
-def read_json(path):
+def read_json(path: str | Path) -> Any:
     """A value from a file."""
     return json.loads(Path(path).read_text(encoding="utf-8"))
 
 
-def last_line(text):
+def last_line(text: str) -> str:
     """The last line of what a program said, or what to say where it said nothing."""
     lines = [line.strip() for line in text.splitlines() if line.strip()]
     return lines[-1] if lines else "without a word"
 
 
-def run(words, what, **streams):
+def run(
+    words: Sequence[str | Path], what: str | Path, **streams: Any
+) -> subprocess.CompletedProcess[bytes]:
     """Runs a program to its end. StepError with its own last word where the status isn't 0."""
     try:
         ended = subprocess.run(words, stderr=subprocess.PIPE, **streams)
@@ -62,7 +66,7 @@ def run(words, what, **streams):
     return ended
 
 
-def unpack_one(source, target):
+def unpack_one(source: str, target: str) -> None:
     """Writes a file to `target` as it was before gzip (or compress) and Hatanaka's compression."""
     if not os.path.exists(source):
         raise StepError(f"{source} isn't there")
@@ -79,7 +83,7 @@ def unpack_one(source, target):
         undo_hatanaka(source, target)
 
 
-def undo_hatanaka(source, target):
+def undo_hatanaka(source: str, target: str) -> None:
     """Undoes Hatanaka's compression by the program that its authors give away."""
     program = shutil.which("crx2rnx") or shutil.which("CRX2RNX")
     if program is None:
@@ -94,7 +98,7 @@ def undo_hatanaka(source, target):
     os.remove(packed)
 
 
-def join_navigation(paths, target):
+def join_navigation(paths: Iterable[str], target: str) -> None:
     """Writes the first file, and behind it the records of the others."""
     with open(target, "wb") as whole:
         for number, path in enumerate(paths):
@@ -106,7 +110,7 @@ def join_navigation(paths, target):
                     is_record = is_record or line[60:73] == b"END OF HEADER"
 
 
-def unpack_all(observations, navigation, room):
+def unpack_all(observations: str, navigation: Iterable[str], room: str) -> tuple[str, str]:
     """The observation and the navigation file as the program reads them, in `room`."""
     obs, nav = f"{room}/obs", f"{room}/nav"
     unpack_one(observations, obs)
@@ -118,7 +122,7 @@ def unpack_all(observations, navigation, room):
     return obs, nav
 
 
-def unpacked(path, target):
+def unpacked(path: str | Path, target: str) -> dict[str, Any]:
     """Writes the log of a compressed one to `target`. Its size and checksum."""
     with open(target, "wb") as file:
         run(["zstd", "-q", "-dc", path], path, stdout=file)

@@ -15,9 +15,10 @@ from pathlib import Path
 import pytest
 from made_logs import EXAMPLES, TOP, ended, ended_with, written
 
-from gpscover import Error, evidence
+from gpscover import Error, evidence, observations
+from gpscover.program import own_program
 
-PROGRAM = str(Path(__file__).resolve().parent.parent / "crates/gpscover/out/gpscover")
+PROGRAM = os.environ.get("GPSCOVER") or str(own_program())
 
 
 def edited(name, old, new):
@@ -125,7 +126,7 @@ def boxes_in(log):
     )
 
 
-class TestRoom:
+class Room:
     """A folder for the files of a receiver and its bundles."""
 
     @classmethod
@@ -181,10 +182,10 @@ class TestRefused:
 
     def test_sheets_that_say_nothing(self):
         for text in self.NO_SHEETS:
-            assert (
-                self.refused("check", sheet.parent)
-                == f"gpslog evidence: {sheet}: this isn't evidence of gpscover, or it was changed\n"
-            )
+            with written(**{"evidence.txt": text}) as (sheet,):
+                assert self.refused("check", sheet.parent) == (
+                    f"gpslog evidence: {sheet}: this isn't evidence of gpscover, or it was changed\n"
+                )
         with tempfile.TemporaryDirectory() as room:
             assert "No such file or directory" in self.refused("check", room)
             assert "No such file or directory" in self.refused("check", f"{room}/none")
@@ -200,13 +201,14 @@ class TestRefused:
         }
         for way, make in ways.items():
             for name in ("receiver.obs", "receiver.log", "evidence.txt", "more"):
-                path = sheet.parent / name
-                path.unlink(missing_ok=True)
-                make(path)
-                assert (
-                    self.refused("check", sheet.parent)
-                    == f"gpslog evidence: {path} isn't a file of the bundle's own, but a link, a folder or a device\n"
-                )
+                with written(**{"evidence.txt": self.SHEET}) as (sheet,):
+                    path = sheet.parent / name
+                    path.unlink(missing_ok=True)
+                    make(path)
+                    assert self.refused("check", sheet.parent) == (
+                        f"gpslog evidence: {path} isn't a file of the bundle's own, but a link, a"
+                        " folder or a device\n"
+                    ), way
 
     def test_nothing_is_left_of_a_bundle_that_lacks_a_file(self):
         with written(obs="", nav="", settings="") as files:
@@ -220,10 +222,10 @@ class TestRefused:
             assert folder.exists()
 
 
-class Bundles(Room):
+class TestBundles(Room):
     @classmethod
     def setup_class(cls):
-        super().setUpClass()
+        super().setup_class()
         cls.files = receiver_in(cls.room)
         cls.bundle, cls.status, cls.lines = bundle_of(cls.room, cls.files, 1)
 
@@ -256,7 +258,8 @@ class Bundles(Room):
         folder = self.copy()
         with open(folder / "settings.toml", "a", encoding="utf-8") as file:
             file.write("# another\n")
-        lines = list(evidence.made(folder, PROGRAM, evidence.Options(1, 1)))
+        second = TOP / evidence.SECOND
+        lines = evidence.made(folder, PROGRAM, second, evidence.Options(1, 1))
         (folder / "evidence.txt").write_text(evidence.sheet(lines), encoding="utf-8", newline="\n")
         assert self.check(folder)[0] == 0
         status, said = self.check(
@@ -314,7 +317,7 @@ class Bundles(Room):
             "> 2008 05 26 05 59 30.9990000  1  0\n",
             encoding="ascii",
         )
-        assert evidence.file_epochs(path) == 2
+        assert observations.file_epochs(path) == 2
 
 
 MOTION = "\n[motion]\nspeed = 3000\n"
@@ -346,10 +349,10 @@ def moved(text):
     return text
 
 
-class Tracks(Room):
+class TestTracks(Room):
     @classmethod
     def setup_class(cls):
-        super().setUpClass()
+        super().setup_class()
         cls.files = receiver_in(cls.room, MOTION)
         cls.bundle, cls.status, cls.lines = bundle_of(cls.room, cls.files, 2, track=True)
 

@@ -8,6 +8,7 @@ import json
 import math
 import os
 import re
+import shutil
 import struct
 import sys
 import tempfile
@@ -15,19 +16,18 @@ from base64 import b64decode
 from pathlib import Path
 from unittest import mock
 
-import browser
+import chromium
 import pytest
-from made_logs import RECORDED, ended, ended_with
+from made_logs import EXAMPLES, RECORDED, ended_with
 
 from gpscover import Error, geodesy, page, page_figures, region, summary
 from gpscover.log import calendar
 from gpscover.log import epochs as read_epochs
 from gpscover.outline import outline
 
-HERE = Path(__file__).resolve().parent
 HEAD = "gpscover 1\nrules 1 10 1000000\n"
-VEHICLE = HERE / "recorded/cres_2008.log"  # regions that reach the search box, and empty epochs
-RECEIVER = HERE / "recorded/ubx_2008.log"
+VEHICLE = RECORDED / "cres_2008.log"  # regions that reach the search box, and empty epochs
+RECEIVER = RECORDED / "ubx_2008.log"
 SKIPS = "skip G01 1\nskip G02 2\nskip G03 3\nskip G04 4\nskip G05 5\nskip G06 6 20\nskip G07 7\n"
 SIDE = 10_000_000
 SATS = "".join(
@@ -51,23 +51,7 @@ MADE = (
 )
 
 
-def has_plotly():
-    """Whether a page can be made."""
-    try:
-        page_figures.tools()
-    except Error:
-        return False
-    return True
-
-
-MISSING = [
-    words
-    for words, there in (
-        (f"{sys.executable} has no plotly", has_plotly()),
-        ("there is no chromium", browser.program()),
-    )
-    if not there
-]
+pytest.importorskip("plotly")
 
 
 def epochs_of(text):
@@ -79,13 +63,8 @@ def epochs_of(text):
 
 
 def made(log, out, *words):
-    """Makes a page. What the script says on standard error."""
-    said = io.StringIO()
-    with mock.patch(
-        "sys.argv", ["page.py", str(log), str(out), *words]
-    ), contextlib.redirect_stderr(said):
-        page.main()
-    return said.getvalue()
+    """Makes a page. What the command says on standard error; its errors are raised."""
+    return ended_with(page, log, out, *words)[2]
 
 
 def ends_of(packed):
@@ -244,11 +223,10 @@ class TestParts:
             assert list(page.settings_differ(text, (1, 10, 1000000))) == []
 
     def test_without_plotly_a_line_says_so(self):
-        with mock.patch.dict(sys.modules, {"plotly": None}), pytest.raises(
-            Error,
-            match="has no plotly; Debian: apt-get install python3-plotly, then /usr/bin/python3 page.py",
-        ):
-            made(RECEIVER, "never.html")
+        told = "has no plotly; Debian: apt-get install python3-plotly, then /usr/bin/python3 -m gpscover"
+        with mock.patch.dict(sys.modules, {"plotly": None}):
+            with pytest.raises(Error, match=told):
+                made(RECEIVER, "never.html")
 
     def test_wrong_words(self):
         for words in (
@@ -257,11 +235,9 @@ class TestParts:
             ["a", "b.html", "--from", "0"],
             ["a", "b.html", "--to", "x"],
         ):
-            page.main()
-            assert ended.exception.code == 2
+            assert ended_with(page, *words)[0] == 2, words
 
 
-@pytest.mark.skipif(not has_plotly(), reason=f"{sys.executable} has no plotly")
 class TestFiles:
     def page_of(self, text, *words):
         """The page of a log, and the line with which it ended, or None."""
@@ -297,11 +273,11 @@ class TestFiles:
         assert re.search(r"<(script|link|img|iframe)[^>]*(src|href)=\"(?!data:)", text) is None
 
 
-@unittest.skipIf(MISSING, " and ".join(MISSING))
+@pytest.mark.skipif(chromium.missing() is not None, reason=str(chromium.missing()))
 class TestInTheBrowser:
     @classmethod
     def setup_class(cls):
-        cls.room = cls.enterClassContext(tempfile.TemporaryDirectory())
+        cls.room = tempfile.mkdtemp()
         Path(cls.room, "made.log").write_text(MADE, newline="\n")
         cls.logs = {"vehicle": VEHICLE, "receiver": RECEIVER, "made": Path(cls.room, "made.log")}
         for name, log in cls.logs.items():
@@ -309,9 +285,14 @@ class TestInTheBrowser:
                 log,
                 f"{cls.room}/{name}.html",
                 "--settings",
-                str(HERE.parent / "examples/settings.toml"),
+                str(EXAMPLES / "settings.toml"),
             )
-        cls.browser = cls.enterClassContext(browser.Browser(1280, 900))
+        cls.browser = chromium.Browser(1280, 900)
+
+    @classmethod
+    def teardown_class(cls):
+        cls.browser.close()
+        shutil.rmtree(cls.room)
 
     def open(self, name, part=""):
         """Opens a page, which must load without an error and without a request to elsewhere."""
@@ -522,7 +503,7 @@ class TestInTheBrowser:
         )
 
     def test_without_webgl_all_else_is_there(self):
-        with browser.Browser(1280, 900, ("--disable-3d-apis",)) as plain:
+        with chromium.Browser(1280, 900, ("--disable-3d-apis",)) as plain:
             plain.open(f"{self.room}/receiver.html")
             assert plain.faults == []
             assert plain.run("document.getElementById('solid').hidden")

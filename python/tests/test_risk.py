@@ -168,5 +168,4 @@ class TestAnswers:
             ("--p", "1e-3", "--satellites", "65"),
             ("--p", "1e-3", "--satellites", "4", "--log", "x"),
         ):
-            said(*words)
-            assert ended.exception.code == 2
+            assert ended_with(risk, *words)[0] == 2

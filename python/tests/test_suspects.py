@@ -7,7 +7,7 @@ from pathlib import Path
 
 from made_logs import FAULTY, FIVE, HEAD, epoch_of
 
-from gpscover import suspects
+from gpscover import Box, suspects
 
 
 STUB = """#!/usr/bin/env python3
@@ -36,7 +36,7 @@ class TestSuspects:
         row = epoch_of(FAULTY + "edge 0 0 0\ndone 0\n").rows[0]
         # G01 at 20,000 km along x, a box from -1 m to 1 m in x and 0.9 m around in y and z
         box = (-1000000, -900000, -900000, 1000000, 900000, 900000)
-        assert suspects.clock_span(row, box) == (-1500000, 1500000)
+        assert suspects.clock_span(row, Box(*box)) == (-1500000, 1500000)
 
     def test_what_is_surely_declared_names_no_satellite(self):
         # The five satellites all keep the widest of their bounds, whatever less is declared at other points.

@@ -7,8 +7,10 @@ directions on a solved and a tracked log of examples/vehicle.obs, and of zones t
 import itertools
 import json
 import math
+import os
 import random
 import re
+import shutil
 import subprocess
 import tempfile
 from fractions import Fraction
@@ -20,6 +22,7 @@ from made_logs import EXAMPLES, RECORDED, ended, ended_with
 from gpscover import Error, shapes, zones
 from gpscover.geodesy import dot, earth_fixed
 from gpscover.log import epochs as read_epochs
+from gpscover.program import own_program
 from gpscover.region import hull_of
 
 DRAWN = 1000
@@ -456,15 +459,10 @@ def drawn_lines(draw, name, boxes):
 class TestGuards:
     """What the program says of a solved and of a tracked log."""
 
-    program = None
-
     @classmethod
     def setup_class(cls):
-        if cls.program is None:
-            return
-        folder = tempfile.TemporaryDirectory()
-        cls.addClassCleanup(folder.cleanup)
-        cls.folder = Path(folder.name)
+        cls.program = os.environ.get("GPSCOVER") or str(own_program())
+        cls.folder = Path(tempfile.mkdtemp())
         text = (EXAMPLES / "settings.toml").read_text(encoding="utf-8")
         text = re.sub(r"(?m)^bisections = .*$", "bisections = 64", text)
         cls.settings = cls.folder / "settings.toml"
@@ -488,9 +486,9 @@ class TestGuards:
             )
             cls.logs[log] = options
 
-    def setup_method(self):
-        if self.program is None:
-            self.skipTest("no program is named")
+    @classmethod
+    def teardown_class(cls):
+        shutil.rmtree(cls.folder)
 
     def expect_lines(self, path, log, options):
         """The program and the script say the same, and this is what they say."""

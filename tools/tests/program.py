@@ -20,26 +20,39 @@ def day(lines):
     for k in range(2880):
         minutes, seconds = divmod(30 * k, 60)
         hour, minute = divmod(minutes, 60)
-        epochs.append(b"> 2024 01 07 %02d %02d %2d.0000000  0 26\n" % (hour, minute, seconds) + sats)
+        epochs.append(
+            b"> 2024 01 07 %02d %02d %2d.0000000  0 26\n" % (hour, minute, seconds) + sats
+        )
     return b"".join([line.ljust(60) + label + b"\n" for line, label in lines] + epochs)
 
 
 # One record, of a satellite that stands still; five lines of zeros follow the first four.
 ZEROS = b"    " + b" 0.000000000000D+00" * 4 + b"\n"
 RECORD = (
-    b"G%02d 2024 01 07 00 00 00" + b" 0.000000000000D+00" * 3 + b"\n" + ZEROS
-    + b"    " + b" 0.000000000000D+00" * 3 + b" 5.200000000000D+03\n" + ZEROS * 5
+    b"G%02d 2024 01 07 00 00 00"
+    + b" 0.000000000000D+00" * 3
+    + b"\n"
+    + ZEROS
+    + b"    "
+    + b" 0.000000000000D+00" * 3
+    + b" 5.200000000000D+03\n"
+    + ZEROS * 5
 )
 DAY = {
-    "day.obs": day([
-        (b"     3.05           OBSERVATION DATA    M", b"RINEX VERSION / TYPE"),
-        (b"G    1 C1C", b"SYS / # / OBS TYPES"),
-        (b"R    1 C1C", b"SYS / # / OBS TYPES"),
-        (b"  2024     1     7     0     0    0.0000000     GPS", b"TIME OF FIRST OBS"),
-        (b"", b"END OF HEADER"),
-    ]),
-    "day.nav": b"     3.05           N: GNSS NAV DATA    G".ljust(60) + b"RINEX VERSION / TYPE\n"
-    + b"".ljust(60) + b"END OF HEADER\n" + b"".join(RECORD % number for number in range(1, 7)),
+    "day.obs": day(
+        [
+            (b"     3.05           OBSERVATION DATA    M", b"RINEX VERSION / TYPE"),
+            (b"G    1 C1C", b"SYS / # / OBS TYPES"),
+            (b"R    1 C1C", b"SYS / # / OBS TYPES"),
+            (b"  2024     1     7     0     0    0.0000000     GPS", b"TIME OF FIRST OBS"),
+            (b"", b"END OF HEADER"),
+        ]
+    ),
+    "day.nav": b"     3.05           N: GNSS NAV DATA    G".ljust(60)
+    + b"RINEX VERSION / TYPE\n"
+    + b"".ljust(60)
+    + b"END OF HEADER\n"
+    + b"".join(RECORD % number for number in range(1, 7)),
     "day.toml": b"""[search]
 centre = [6378137000, 0, 0]
 half = 200000

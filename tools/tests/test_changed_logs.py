@@ -10,11 +10,23 @@ class TestChangedLogs:
             changes = list(changed_logs.number_changes([row]))
             assert len(changes) == 2 * count
             assert len({(field, way) for _, field, way, _ in changes}) == 2 * count
-        assert changes[-2:] == [("sat", "sure hi", "up", [self.ROW + " -8 10"]),
-                                        ("sat", "sure hi", "down", [self.ROW + " -8 8"])]
+        assert changes[-2:] == [
+            ("sat", "sure hi", "up", [self.ROW + " -8 10"]),
+            ("sat", "sure hi", "down", [self.ROW + " -8 8"]),
+        ]
 
     def test_a_satellite_keeps_its_system(self):
-        assert [lines for *_, lines in changed_logs.number_changes(["skip E09 3"])] == [["skip E10 3"], ["skip E08 3"], ["skip E09 4"], ["skip E09 2"]]
+        assert [lines for *_, lines in changed_logs.number_changes(["skip E09 3"])] == [
+            ["skip E10 3"],
+            ["skip E08 3"],
+            ["skip E09 4"],
+            ["skip E09 2"],
+        ]
 
     def test_a_skip_with_a_field_has_its_reason_changed(self):
-        assert [lines for *_, lines in changed_logs.number_changes(["skip G09 6 2"])] == [["skip G10 6 2"], ["skip G08 6 2"], ["skip G09 7 2"], ["skip G09 5 2"]]
+        assert [lines for *_, lines in changed_logs.number_changes(["skip G09 6 2"])] == [
+            ["skip G10 6 2"],
+            ["skip G08 6 2"],
+            ["skip G09 7 2"],
+            ["skip G09 5 2"],
+        ]

@@ -16,7 +16,9 @@ FILES = Files()
 ALONE = forged_logs.judged_and_paved()
 CHECKED = list(forged_logs.checked(FILES))
 WORDS = {
-    "judge": ["log"], "check": ["obs", "nav", "settings", "log"], "pave": ["log", "new.log"],
+    "judge": ["log"],
+    "check": ["obs", "nav", "settings", "log"],
+    "pave": ["log", "new.log"],
     "guard": ["obs", "nav", "settings", "zones", "log"],
 }
 
@@ -43,15 +45,27 @@ class TestProgram:
 
     def found(self):
         """What the boxes of the log say of the zones."""
-        boxes = ((e.index, None if e.few else [kept.box for kept in e.kept]) for e in epochs(self.room / "log"))
-        return "".join(line + "\n" for line in zones.lines(*zones.read_zones(self.room / "zones"), boxes))
+        boxes = (
+            (e.index, None if e.few else [kept.box for kept in e.kept])
+            for e in epochs(self.room / "log")
+        )
+        return "".join(
+            line + "\n" for line in zones.lines(*zones.read_zones(self.room / "zones"), boxes)
+        )
 
     def expect(self, settings, forged):
         """The program's answer is the wanted one, and no file is made."""
         self.write("settings", settings)
         (self.room / "log").write_bytes(forged.data)
         run = [self.program, forged.command, *WORDS[forged.command]]
-        ran = subprocess.run(run, cwd=self.room, stdin=subprocess.DEVNULL, capture_output=True, text=True, timeout=120)
+        ran = subprocess.run(
+            run,
+            cwd=self.room,
+            stdin=subprocess.DEVNULL,
+            capture_output=True,
+            text=True,
+            timeout=120,
+        )
         answer, within = answer_of(forged)
         out = ran.stdout
         if within and out.startswith(answer) and forged_logs.holds_own(out, within):
@@ -64,7 +78,10 @@ class TestProgram:
     def test_a_log_or_rows_alone(self, forged):
         self.expect(FILES.settings, forged)
 
-    @pytest.mark.parametrize("settings, forged", [pytest.param(*it, id=f"{it[1].command}, {it[1].name}") for it in CHECKED])
+    @pytest.mark.parametrize(
+        "settings, forged",
+        [pytest.param(*it, id=f"{it[1].command}, {it[1].name}") for it in CHECKED],
+    )
     def test_a_log_beside_files(self, settings, forged):
         self.expect(settings, forged)
 
@@ -96,7 +113,11 @@ def checker(request):
 def test_both_checkers_on_renewed_rows(checker, room, settings, lines, answer):
     line = answer if isinstance(answer, str) else answer[0]
     (room / "log").write_bytes(text(lines))
-    words = [*checker[settings is None], *["obs", "nav", "settings"] * (settings is not None), "log"]
+    words = [
+        *checker[settings is None],
+        *["obs", "nav", "settings"] * (settings is not None),
+        "log",
+    ]
     for name, content in (("obs", FILES.obs), ("nav", FILES.nav), ("settings", settings or "")):
         (room / name).write_text(content)
     ran = subprocess.run(words, cwd=room, capture_output=True, text=True)

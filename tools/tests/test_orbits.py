@@ -9,8 +9,12 @@ class TestOrbits:
     def test_the_mean_motion_is_that_of_the_system(self):
         """The root of mu over the cube of the axis 5440.6^2, by whole numbers."""
         zeros = " 0.000000000000D+00"
-        lines = [" 2024 01 07 00 00 00" + 3 * zeros, "    " + 4 * zeros, "    " + 3 * zeros + " 5.440600000000D+03",
-                 *5 * ["    " + 4 * zeros]]
+        lines = [
+            " 2024 01 07 00 00 00" + 3 * zeros,
+            "    " + 4 * zeros,
+            "    " + 3 * zeros + " 5.440600000000D+03",
+            *5 * ["    " + 4 * zeros],
+        ]
         for name, motion in (("E01", 1.239733955228326673e-4), ("G01", 1.239734045735644270e-4)):
             assert orbits.Record(name + "\n".join(lines)).motion == pytest.approx(motion, abs=1e-18)
 

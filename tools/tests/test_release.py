@@ -39,7 +39,14 @@ class Repository:
     def __init__(self, room):
         self.room, self.top, self.bin = room, room / "repository", room / "bin"
         self.bin.mkdir()
-        for name in ("gpscover", "scripts/program.sh", "scripts/release.sh", "python/src/gpscover/log.py", "CHANGELOG.md", "HANDLES"):
+        for name in (
+            "gpscover",
+            "scripts/program.sh",
+            "scripts/release.sh",
+            "python/src/gpscover/log.py",
+            "CHANGELOG.md",
+            "HANDLES",
+        ):
             self.write(name, (TOP / name).read_bytes())
             os.chmod(self.top / name, 0o755)
         self.write("crates.txt", b"# comment\nlow:\nother: low\ngpscover: low # of both\n")
@@ -71,7 +78,9 @@ class Repository:
 
     def run(self, *words, **more):
         env = {"PATH": f"{self.bin}:{TOOLS}", "HOME": str(self.room / "home"), **more}
-        return subprocess.run(words, cwd=self.room, env=env, stdin=subprocess.DEVNULL, capture_output=True, text=True)
+        return subprocess.run(
+            words, cwd=self.room, env=env, stdin=subprocess.DEVNULL, capture_output=True, text=True
+        )
 
     def gpscover(self, *words, **more):
         ran = self.run(str(self.top / "gpscover"), *words, **more)
@@ -112,13 +121,18 @@ class TestWhatRuns(InRepository):
             assert self.it.gpscover("solve", "a b") == (0, "released solve a b\n", "")
         path = self.it.gpscover("--path")[1].strip()
         assert Path(path).read_bytes() == RELEASED
-        assert f"released: SHA-256 {sha256(RELEASED)}, proved and built of these sources by kit 1\n" in self.it.gpscover("--version")[1]
+        assert (
+            f"released: SHA-256 {sha256(RELEASED)}, proved and built of these sources by kit 1\n"
+            in self.it.gpscover("--version")[1]
+        )
         assert not (self.it.top / "crates/gpscover/out").exists()
 
     def test_what_is_no_source_of_the_program_changes_nothing(self):
         for name in ("crates/other/src/lib.rt", "README.md", "crates/low/must-fail/an.edit"):
             self.it.write(name, b"changed")
-        self.it.write("crates.txt", b"low:\ngpscover:   low\nother:\nthird: low\n".replace(b":   ", b": "))
+        self.it.write(
+            "crates.txt", b"low:\ngpscover:   low\nother:\nthird: low\n".replace(b":   ", b": ")
+        )
         assert self.it.gpscover("x") == (0, "released x\n", "")
 
     def test_a_changed_source_is_proved_and_built(self):
@@ -129,7 +143,9 @@ class TestWhatRuns(InRepository):
             if change == "new":
                 self.it.write("crates/low/src/new.rt", b"")
             else:
-                source.write_bytes(b"pub fn LOW() {}\n" if change == "edit" else b"pub fn Low() {}\n")
+                source.write_bytes(
+                    b"pub fn LOW() {}\n" if change == "edit" else b"pub fn Low() {}\n"
+                )
                 os.utime(source, ns=(before.st_atime_ns, before.st_mtime_ns))
             self.refused(["x"], "rt, the toolchain, isn't on the path")
             self.it.kit("1")
@@ -155,8 +171,10 @@ class TestWhatRuns(InRepository):
         self.it.kit("1")
         self.it.gpscover("x")
         self.it.write("crates/low/src/lib.rt", b"wrong")
-        (self.it.bin / "rt").write_text("#!/bin/sh\n[ $1 = version ] && echo kit 1 && exit\n"
-                                        "echo 'rt: FAILED: low'\necho '1 passed, 1 failed'\n")
+        (self.it.bin / "rt").write_text(
+            "#!/bin/sh\n[ $1 = version ] && echo kit 1 && exit\n"
+            "echo 'rt: FAILED: low'\necho '1 passed, 1 failed'\n"
+        )
         self.refused(["x"], "not proved: low")
 
     def test_a_damaged_release_is_told_and_not_run(self):
@@ -198,9 +216,14 @@ class TestWhatRuns(InRepository):
 
     def test_eight_first_runs_at_once_each_find_a_whole_program(self):
         env = {"PATH": TOOLS, "HOME": str(self.it.room / "home")}
-        runs = [subprocess.Popen([str(self.it.top / "gpscover"), "x"], env=env, stdout=subprocess.PIPE) for _ in range(8)]
+        runs = [
+            subprocess.Popen([str(self.it.top / "gpscover"), "x"], env=env, stdout=subprocess.PIPE)
+            for _ in range(8)
+        ]
         assert [run.communicate()[0] for run in runs] == [b"released x\n"] * 8
-        assert len(self.it.cached()) == 1 + sum(name.startswith("seen") for name in self.it.cached())
+        assert len(self.it.cached()) == 1 + sum(
+            name.startswith("seen") for name in self.it.cached()
+        )
 
 
 class TestWhatTheGateAsks(InRepository):
@@ -269,19 +292,24 @@ class TestWhatTheGateAsks(InRepository):
 
 
 @pytest.mark.skipif(
-    "\nreleased: " not in subprocess.run([TOP / "gpscover", "--version"], capture_output=True, text=True).stdout,
+    "\nreleased: "
+    not in subprocess.run([TOP / "gpscover", "--version"], capture_output=True, text=True).stdout,
     reason="the release isn't of these sources",
 )
 class TestThisRepository:
     @pytest.fixture(autouse=True)
     def copy(self, room, request):
         self.room, self.at_end = room, request.addfinalizer
-        left_out = shutil.ignore_patterns(".git", "out", "__pycache__", "docs", "second", "workflow")
+        left_out = shutil.ignore_patterns(
+            ".git", "out", "__pycache__", "docs", "second", "workflow"
+        )
         shutil.copytree(TOP, self.room / "gpscover", ignore=left_out)
 
     def run_in_copy(self, *words):
         env = {"PATH": TOOLS, "HOME": str(self.room)}
-        return subprocess.run(words, cwd=self.room / "gpscover", env=env, capture_output=True, text=True)
+        return subprocess.run(
+            words, cwd=self.room / "gpscover", env=env, capture_output=True, text=True
+        )
 
     def test_the_first_commands_of_the_readme_run_at_once(self):
         files = [f"examples/{name}" for name in ("receiver.obs", "receiver.nav", "settings.toml")]
@@ -290,7 +318,12 @@ class TestThisRepository:
         checked = self.run_in_copy("./gpscover", "check", *files, "receiver.log")
         table = self.run_in_copy(sys.executable, "scripts/summary.py", "receiver.log")
         ended = os.times()
-        took = ended.children_user + ended.children_system - began.children_user - began.children_system
+        took = (
+            ended.children_user
+            + ended.children_system
+            - began.children_user
+            - began.children_system
+        )
         assert (solved.returncode, solved.stderr) == (0, "")
         assert checked.stdout == "yes 2047\n"
         assert "epochs 4: 4 with a region" in table.stdout

@@ -18,9 +18,25 @@ from gpscover.log import (
     open_log,
 )
 from gpscover.region import Region, region_of
+from gpscover.runs import (
+    ProgramError,
+    Refused,
+    Report,
+    Verdict,
+    check,
+    guard,
+    judge,
+    progress_bar,
+    retrack,
+    solve,
+    track,
+)
+from gpscover.settings import Settings
+from gpscover.zones import Corners, Prism, Reach, read_zones
 
 __all__ = [
     "Box",
+    "Corners",
     "Epoch",
     "Error",
     "Interval",
@@ -28,12 +44,27 @@ __all__ = [
     "Log",
     "LogError",
     "NumberError",
+    "Prism",
+    "ProgramError",
+    "Reach",
+    "Refused",
     "Region",
     "Renewal",
+    "Report",
     "Row",
     "Rules",
+    "Settings",
     "Skip",
     "SkipReason",
+    "Verdict",
+    "check",
+    "guard",
+    "judge",
     "open_log",
+    "progress_bar",
+    "read_zones",
     "region_of",
+    "retrack",
+    "solve",
+    "track",
 ]

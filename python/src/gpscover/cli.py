@@ -6,11 +6,39 @@ import argparse
 import sys
 from collections.abc import Sequence
 
-from gpscover import bounds, evidence, page, pictures, risk, shapes, summary, suspects, zones
+from gpscover import (
+    bounds,
+    evidence,
+    export,
+    files,
+    frames,
+    known,
+    page,
+    pictures,
+    risk,
+    shapes,
+    summary,
+    suspects,
+    zones,
+)
 from gpscover.command import Command, run_tool
 from gpscover.errors import UsageError
 
-MODULES = (summary, pictures, page, suspects, bounds, risk, shapes, zones, evidence)
+MODULES = (
+    summary,
+    pictures,
+    page,
+    export,
+    frames,
+    known,
+    suspects,
+    bounds,
+    risk,
+    shapes,
+    zones,
+    evidence,
+    files,
+)
 COMMANDS = {module.COMMAND.name: module.COMMAND for module in MODULES}
 ABOUT = "Reads, draws and judges the logs of gpscover. `gpslog COMMAND --help` tells of each."
 

@@ -2,19 +2,132 @@
 
 from __future__ import annotations
 
+import argparse
 import sys
-from typing import TYPE_CHECKING
+from collections.abc import Callable, Iterable
+from typing import TYPE_CHECKING, Any
 
+from gpscover.command import Command
 from gpscover.errors import Error
-from gpscover.log import Log
+from gpscover.log import Epoch, Log, open_log
+from gpscover.region import region_or_none
+from gpscover.summary import mark_of
+from gpscover.geodesy import geodetic
 
 if TYPE_CHECKING:
     import pandas
 
+EPOCH_COLUMNS = "epoch time ps mark satellites outliers inner edge out splits".split()
+REGION_COLUMNS = (
+    "east_m north_m up_m clock_low_m clock_high_m volume_m3 latitude_rad longitude_rad height_m"
+    " x_m y_m z_m faces"
+).split()
+ENDS = [f"{axis}_{end}_um" for end in ("low", "high") for axis in "xyz"]
+BOX_COLUMNS = ["epoch", "time", "inner", *ENDS, "clock_low_um", "clock_high_um"]
+ROW_ENDS = [
+    f"{name}_{end}_um"
+    for name in ("x", "y", "z", "range", "error", "sure")
+    for end in ("low", "high")
+]
+ROW_COLUMNS = ["epoch", "time", "satellite", *ROW_ENDS]
+
+
+def library() -> Any:
+    """pandas, or an Error that says how to get it."""
+    try:
+        import pandas
+    except ImportError:
+        raise Error(
+            f"{sys.executable} has no pandas; Debian: apt-get install python3-pandas,"
+            " then /usr/bin/python3 .."
+        ) from None
+    return pandas
+
+
+def frame_of(columns: list[str], rows: Iterable[tuple[Any, ...]]) -> pandas.DataFrame:
+    """A frame of some rows."""
+    return library().DataFrame.from_records(list(rows), columns=columns)
+
+
+def epoch_row(epoch: Epoch) -> tuple[Any, ...]:
+    """An epoch's numbers in the order of the columns, None where it has no region."""
+    region = region_or_none(epoch)
+    inner = sum(kept.inner for kept in epoch.kept)
+    mark = mark_of(epoch, region) or "ok"
+    head = (epoch.index, epoch.time, epoch.ps, mark, epoch.satellites, epoch.outliers)
+    counts = (inner, len(epoch.kept) - inner, epoch.outs, epoch.splits)
+    if region is None:
+        return (*head, *counts, *(None,) * len(REGION_COLUMNS))
+    middle = region.middle()
+    lengths = (*region.widths(), *region.clock, region.volume)
+    return (*head, *counts, *lengths, *geodetic(middle), *middle, " ".join(region.faces))
+
 
 def epochs_frame(log: Log) -> pandas.DataFrame:
-    """A row an epoch."""
-    raise Error(f"{sys.executable} has no pandas")
+    """A row an epoch: time in GPS time, counts, and the region's lengths and middle in metres.
+
+    `ps` is the exact time in ps, as Python's whole numbers.
+    """
+    return frame_of(EPOCH_COLUMNS + REGION_COLUMNS, map(epoch_row, log))
 
 
-boxes_frame = rows_frame = epochs_frame
+def boxes_frame(log: Log) -> pandas.DataFrame:
+    """A row a kept box, in um: its ends, and its span of clock offsets."""
+    rows = (
+        (epoch.index, time, kept.inner, *kept.box, *kept.clock)
+        for epoch, time in ((epoch, epoch.time) for epoch in log)
+        for kept in epoch.kept
+    )
+    return frame_of(BOX_COLUMNS, rows)
+
+
+def rows_frame(log: Log) -> pandas.DataFrame:
+    """A row a usable satellite of each epoch, in um: its spans over the search box."""
+    rows = (
+        (epoch.index, epoch.time, row.satellite, *sum(row.place, ()), *row.range, *row.error)
+        + tuple(row.sure)
+        for epoch in log
+        for row in epoch.rows
+    )
+    return frame_of(ROW_COLUMNS, rows)
+
+
+KINDS: dict[str, Callable[[Log], Any]] = {
+    "epochs": epochs_frame,
+    "boxes": boxes_frame,
+    "rows": rows_frame,
+}
+
+
+def write_frame(frame: Any, path: str) -> None:
+    """Writes a frame as CSV or Parquet, by the ending of the name."""
+    if path.endswith(".csv"):
+        frame.to_csv(path, index=False)
+        return
+    try:
+        frame.astype({"ps": str} if "ps" in frame else {}).to_parquet(path)
+    except ImportError:
+        raise Error("Parquet needs pyarrow or fastparquet") from None
+
+
+def frame_name(name: str) -> str:
+    """A file's name that ends with .csv or .parquet."""
+    if not name.endswith((".csv", ".parquet")):
+        raise argparse.ArgumentTypeError("OUT ends with .csv or .parquet")
+    return name
+
+
+def arguments(parser: argparse.ArgumentParser) -> None:
+    """The words of the command line."""
+    parser.add_argument("log", metavar="LOG")
+    parser.add_argument("out", metavar="OUT", type=frame_name)
+    parser.add_argument("--of", choices=KINDS, default="epochs", help="what a row is of (epochs)")
+
+
+def run(args: argparse.Namespace) -> int:
+    """Writes a frame. The status."""
+    write_frame(KINDS[args.of](open_log(args.log)), args.out)
+    return 0
+
+
+COMMAND = Command("frame", "epochs, boxes or rows as a table, CSV or Parquet", arguments, run)

@@ -61,8 +61,8 @@ from gpscover.places import Meetings, read_places
 from gpscover.region import (
     Extent,
     Region,
-    hull_of,
     region_of,
+    reaches,
     region_or_none,
     touched_faces,
     upward,

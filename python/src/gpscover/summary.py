@@ -367,6 +367,27 @@ def summarize(
     return totals
 
 
+def place_arguments(parser: argparse.ArgumentParser) -> None:
+    """The words on known places."""
+    way = parser.add_mutually_exclusive_group()
+    way.add_argument(
+        "--azimuth",
+        type=measure,
+        metavar="A",
+        help="look along and across A degrees from north, clockwise",
+    )
+    way.add_argument(
+        "--along", metavar="FILE", help="look along and across a track, a list of places"
+    )
+    parser.add_argument(
+        "--limit",
+        type=alert_limit,
+        nargs=2,
+        metavar=("H", "V"),
+        help="alert limits along the ground and up, m",
+    )
+
+
 def arguments(parser: argparse.ArgumentParser) -> None:
     """The words of the command line."""
     parser.add_argument("log", metavar="LOG")
@@ -387,23 +408,7 @@ def arguments(parser: argparse.ArgumentParser) -> None:
         "--obs", metavar="OBS", help="say how many epochs of this observation file the log covers"
     )
     parser.add_argument("--places", metavar="FILE", help="a list of known places")
-    way = parser.add_mutually_exclusive_group()
-    way.add_argument(
-        "--azimuth",
-        type=measure,
-        metavar="A",
-        help="look along and across A degrees from north, clockwise",
-    )
-    way.add_argument(
-        "--along", metavar="FILE", help="look along and across a track, a list of places"
-    )
-    parser.add_argument(
-        "--limit",
-        type=alert_limit,
-        nargs=2,
-        metavar=("H", "V"),
-        help="alert limits along the ground and up, m",
-    )
+    place_arguments(parser)
 
 
 def judge_of(args: argparse.Namespace) -> Judge | None:

@@ -1,0 +1,180 @@
+"""The settings of a run, as dataclasses that are written to and read from TOML.
+
+All lengths are whole millimetres, as in examples/settings.toml, which says what each key means.
+"""
+
+from __future__ import annotations
+
+import importlib
+from dataclasses import dataclass, field, fields
+from pathlib import Path
+from typing import Any
+
+from gpscover.errors import Error
+from gpscover.log import PathLike
+
+__all__ = ["Bounds", "Galileo", "Search", "Settings", "SettingsError", "Signal"]
+
+Pair = tuple[int, int]  # [low, high] in mm
+Three = tuple[int, int, int]
+
+
+class SettingsError(Error):
+    """Settings that can't be read."""
+
+
+@dataclass(frozen=True)
+class Search:
+    """The table [search]: the search box and the rules of the paving."""
+
+    half: int | Three  # of each side of the box, in mm
+    outliers: int  # how many satellites may break their bounds
+    bisections: int  # how many boxes of an epoch may be split
+    centre: str | Three = "header"
+    width: int = 1000  # in mm: a side that isn't longer isn't split
+    max_age: int = 7200  # in s: of an ephemeris
+    renew: bool | None = None  # None: the key is absent
+    pairs: bool | None = None
+
+
+@dataclass(frozen=True)
+class Signal:
+    """The table [signal]: the mode, single or dual, and its one or two codes."""
+
+    mode: str
+    codes: tuple[str, ...]
+
+
+@dataclass(frozen=True)
+class Galileo:
+    """The table [galileo]: its codes, and the bound in mm of the offset of its time."""
+
+    codes: tuple[str, ...]
+    offset: Pair
+    message: str | None = None
+
+
+@dataclass(frozen=True)
+class Bounds:
+    """The table [bounds]: what is declared of the errors of every satellite, in mm."""
+
+    receiver: Pair
+    orbit_clock: Pair
+    ionosphere: Pair
+    troposphere: Pair
+    zenith: Pair | None = None
+    vertical: Pair | None = None
+
+
+@dataclass(frozen=True)
+class Settings:
+    """All tables. `satellites` has what is added for one satellite, in mm; `speed` is in mm/s."""
+
+    search: Search
+    signal: Signal
+    bounds: Bounds
+    galileo: Galileo | None = None
+    speed: int | None = None
+    satellites: dict[str, Pair] = field(default_factory=dict)
+
+    def to_toml(self) -> str:
+        """The text of a file of settings."""
+        tables = {"search": keys_of(self.search), "signal": keys_of(self.signal)}
+        if self.galileo is not None:
+            tables["galileo"] = keys_of(self.galileo)
+        if self.speed is not None:
+            tables["motion"] = {"speed": self.speed}
+        tables["bounds"] = keys_of(self.bounds)
+        if self.satellites:
+            tables["satellite"] = dict(self.satellites)
+        return "\n".join(table_text(name, keys) for name, keys in tables.items())
+
+    def write(self, path: PathLike) -> None:
+        """Writes a file of settings."""
+        Path(path).write_text(self.to_toml(), encoding="utf-8", newline="\n")
+
+    @classmethod
+    def from_toml(cls, text: str) -> Settings:
+        """The settings of a text. SettingsError where it isn't one of settings."""
+        try:
+            return settings_of(toml().loads(text))
+        except (ValueError, TypeError, LookupError, AttributeError) as error:
+            raise SettingsError(f"these are no settings: {error}") from None
+
+    @classmethod
+    def read(cls, path: PathLike) -> Settings:
+        """The settings of a file. SettingsError where it isn't one of settings."""
+        try:
+            return cls.from_toml(Path(path).read_text(encoding="utf-8"))
+        except (SettingsError, UnicodeDecodeError) as error:
+            raise SettingsError(f"{path}: {error}") from None
+
+
+def toml() -> Any:
+    """A reader of TOML: that of Python 3.11, or tomli."""
+    for name in ("tomllib", "tomli"):
+        try:
+            return importlib.import_module(name)
+        except ImportError:
+            continue
+    raise SettingsError("Python before 3.11 needs tomli to read settings")
+
+
+def keys_of(table: Any) -> dict[str, Any]:
+    """The keys of a table that aren't absent, in order; those without a default come first."""
+    found = {it.name: getattr(table, it.name) for it in fields(table)}
+    return {name: value for name, value in found.items() if value is not None}
+
+
+def value_text(value: Any) -> str:
+    """A value as TOML has it."""
+    if isinstance(value, bool):
+        return str(value).lower()
+    if isinstance(value, (tuple, list)):
+        return f"[{', '.join(map(value_text, value))}]"
+    return f'"{value}"' if isinstance(value, str) else str(value)
+
+
+def table_text(name: str, keys: dict[str, Any]) -> str:
+    """A table as TOML has it."""
+    lines = [f"{key} = {value_text(value)}" for key, value in keys.items()]
+    return "\n".join([f"[{name}]", *lines, ""])
+
+
+def whole(value: Any) -> int:
+    """A whole number."""
+    if isinstance(value, bool) or not isinstance(value, int):
+        raise TypeError(f"{value!r} isn't a whole number")
+    return value
+
+
+def frozen(value: Any) -> Any:
+    """A value of TOML with tuples for its lists. TypeError where it is none that settings have."""
+    if isinstance(value, list):
+        return tuple(it if isinstance(it, str) else whole(it) for it in value)
+    return value if isinstance(value, (str, bool)) else whole(value)
+
+
+def pair(value: Any) -> Pair:
+    """A bound of two ends."""
+    low, high = value
+    return whole(low), whole(high)
+
+
+def settings_of(tree: dict[str, Any]) -> Settings:
+    """The settings of a tree of tables."""
+    unknown = set(tree) - {"search", "signal", "galileo", "motion", "bounds", "satellite"}
+    if unknown:
+        raise ValueError(f"unknown table {sorted(unknown)[0]}")
+    tables = {
+        name: {key: frozen(value) for key, value in table.items()} for name, table in tree.items()
+    }
+    galileo = tables.get("galileo")
+    return Settings(
+        Search(**tables["search"]),
+        Signal(**tables["signal"]),
+        Bounds(**tables["bounds"]),
+        Galileo(**galileo) if galileo is not None else None,
+        tables.get("motion", {}).get("speed"),
+        {name: pair(value) for name, value in tables.get("satellite", {}).items()},
+    )
