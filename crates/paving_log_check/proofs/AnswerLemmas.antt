@@ -25,6 +25,7 @@ use Rattle.paving_log_check.specs.Checked.{EpochAccepted, EpochRefused}
 use Rattle.paving_log_check.specs.Forming.{AreFormed, AreAllFormed, AreAsMany, own_lines, EpochHolds, EpochBreaks}
 use Rattle.paving_log_check.specs.OwnLines.{renewals_of, usable_of, AreOwnRows, AreRenewed, IsOwnOf, HaveEachRow}
 use Rattle.paving_log_check.specs.declared.verdict.Fault.{Fault}
+use Rattle.paving_log_check.proofs.BeforeLemmas.{fails_whole}
 use Rattle.paving_log_check.proofs.NarrowLemmas.{epoch_narrow}
 
 -- where each renewal has as many rows as there are bases, a row is formed for each line
@@ -108,6 +109,8 @@ module _ (m : Meaning) (rules : Rules) (search : Search) (lines : List SatLine) 
       record {
         own = own_lines lines f.renewed;
         are_own = is;
+        whole = fails_whole m.delays rules search.root lines bases block f.renewed fault
+            (λ counts. bases_many m search.root search.epoch.tag search.epoch.sats.items lines bases own are ∙ sym counts.usable) f.fails f.many;
         fails = f.fails;
         narrow = epoch_narrow m rules search (own_lines lines f.renewed) block fault is f.fails;
       }

@@ -20,7 +20,7 @@ module _ {F : Type 0} (tests : LineTests F) (first : RowsOver) where
   lines_within j i (row ∷ rows) zero fault f = omega arith
   lines_within j i (row ∷ rows) (suc k) fault f = omega (arith, lines_within j (suc i) rows k fault f.1)
 
-  renewal_within : (j : ℕ) (boxes : Subpaving) (new : RowsOver) (k : ℕ) (fault : F)
+  pub renewal_within : (j : ℕ) (boxes : Subpaving) (new : RowsOver) (k : ℕ) (fault : F)
       → RenewalFails tests first j boxes new k fault → k ≤ length new.rows
   renewal_within j boxes new zero fault f = omega arith
   renewal_within j boxes new (suc k) fault f = omega (arith, lines_within j 0 new.rows k fault f.1)

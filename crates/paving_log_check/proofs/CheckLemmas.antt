@@ -1,5 +1,5 @@
 -- The blocks of a log, checked one by one against the searches.
-use Rattle.std.proofs.Common.{◌≡◌, ℕ, ◌+◌, ◌≤◌, arith, List, [], ◌∷◌, length, inl, inr, refl, sym, ap, Option, None, Some}
+use Rattle.std.proofs.Common.{◌≡◌, ℕ, ◌+◌, ◌≤◌, arith, List, [], ◌∷◌, length, subst, inl, inr, refl, sym, ap, ◌∙◌, Option, None, Some}
 use Rattle.epoch_selection.specs.Searches.{Search}
 use Rattle.gnss_model.specs.declared.delays.Delays.{Delays}
 use Rattle.grid_model.specs.Boxes.{GridBox}
@@ -15,10 +15,11 @@ use Rattle.paving_log_check.specs.Admissible.{AreSameRules, IsOf, IsDue, AdmitsF
 use Rattle.paving_log_check.specs.Answers.{ShowsNoSpans}
 use Rattle.paving_log_check.specs.Checked.{EpochAccepted, EpochRefused, IsAccepted, IsRefused}
 use Rattle.paving_log_check.specs.Epochs.{BodyPassesAt, EpochFails}
-use Rattle.paving_log_check.specs.OwnLines.{OwnLines, AreOwn, AreWhole}
+use Rattle.paving_log_check.specs.OwnLines.{OwnLines, AreOwn, AreWhole, IsWholeBefore, AreWholeBefore}
 use Rattle.paving_log_check.specs.Renewed.{HoldsGiven}
 use Rattle.paving_log_check.specs.declared.verdict.Fault.{Fault}
-use Rattle.paving_log_check.proofs.FirstFaultLemmas.{not_both, one_fault}
+use Rattle.paving_log_check.proofs.BeforeLemmas.{whole_before}
+use Rattle.paving_log_check.proofs.FirstFaultLemmas.{one_in_epoch, not_both, one_fault}
 use Rattle.paving_log_check.proofs.FitLemmas.{AreInBoxes, fit_all}
 use Rattle.paving_log_check.proofs.GivenLemmas.{events_any}
 use Rattle.paving_log_check.proofs.NarrowLemmas.{log_narrow}
@@ -43,6 +44,8 @@ module _ (m : Meaning) where
     pub own : (owns : List OwnLines) → AreOwn m rest left owns
         → AreOwn m searches log.blocks (whole owns)
     pub full : (owns : List OwnLines) → AreWhole owns left → AreWhole (whole owns) log.blocks
+    pub given : (owns : List OwnLines) (line : ℕ) → AreWholeBefore line owns left
+        → AreWholeBefore line (whole owns) log.blocks
     pub long : (owns : List OwnLines) → length owns ≡ length rest
         → length (whole owns) ≡ length searches
     pub kept : boxes + kept_boxes_in left ≡ kept_boxes log
@@ -57,6 +60,7 @@ module _ (m : Meaning) where
     fail = λ owns fault h. h;
     own = λ owns h. h;
     full = λ owns h. h;
+    given = λ owns line h. h;
     long = λ owns e. e;
     kept = omega arith;
     numbered = numbered;
@@ -77,6 +81,7 @@ module _ (m : Meaning) where
     fail = λ owns fault h. u.fail (accepted.own ∷ owns) fault (rw (is, first) (inr (inr (is_of, accepted.passes, h))));
     own = λ owns h. u.own (accepted.own ∷ owns) (rw (is, first) (accepted.are_own, h));
     full = λ owns h. u.full (accepted.own ∷ owns) (rw first (accepted.whole, h));
+    given = λ owns line h. u.given (accepted.own ∷ owns) line (rw first (whole_before line accepted.own block accepted.whole, h));
     long = λ owns e. u.long (accepted.own ∷ owns) (omega (arith, e, ap length is));
     kept = omega (arith, u.kept, ap kept_boxes_in first, is_kept);
     numbered = (rw first at u.numbered).1;
@@ -103,6 +108,7 @@ module _ (m : Meaning) where
       record {
         owns = [];
         are_own = tt;
+        whole = tt;
         first = first;
         refused = not_both m.delays searches [] rules log fault first;
         only = λ other f. one_fault m.delays searches [] rules log other fault f first;
@@ -111,14 +117,15 @@ module _ (m : Meaning) where
 
   refused_by : (rules : Rules) (searches : List Search) (log : LogValue) (fault : Fault) (owns : List OwnLines)
       → AreSameRules rules log.rules
-      → AreOwn m searches log.blocks owns
+      → AreOwn m searches log.blocks owns → AreWholeBefore fault.line owns log.blocks
       → FailsFrom m.delays rules 3 None owns searches log.blocks fault
       → IsRefused m searches rules log fault
-  refused_by rules searches log fault owns same own fails =
+  refused_by rules searches log fault owns same own whole fails =
       let first : FailsFirst m.delays searches owns rules log fault = inr (same, fails) in
       record {
         owns = owns;
         are_own = own;
+        whole = whole;
         first = first;
         refused = not_both m.delays searches owns rules log fault first;
         only = λ other f. one_fault m.delays searches owns rules log other fault f first;
@@ -130,8 +137,17 @@ module _ (m : Meaning) where
       → fault.line ≡ next → fault.number ≡ 51 → ShowsNoSpans fault
       → IsRefused m searches rules log fault
   due_refused {rules = rules} {searches = searches} {log = log} {rest = rest} fault u same not_due line number none =
-      refused_by rules searches log fault (u.whole []) same (u.own [] tt)
+      refused_by rules searches log fault (u.whole []) same (u.own [] tt) (u.given [] fault.line tt)
       (u.fail [] fault (record { fails = not_due; line = line; number = number; no_spans = none }))
+
+  -- the fault of a block is told at the line of its own one
+  line_of_block : (rules : Rules) (search : Search) (more : List Search) (block : Block) (behind : List Block) (own : OwnLines) (next : ℕ) (found fault : Fault)
+      → EpochFails m.delays rules search.root own block found
+      → BlockFault m.delays rules next own search more block behind fault
+      → found.line ≡ fault.line
+  line_of_block rules search more block behind own next found fault fails (inl f) = (one_in_epoch m.delays rules search.root own block found fault fails f.0).line
+  line_of_block rules search more block behind own next found fault fails (inr (due, (other, f, line))) =
+      (one_in_epoch m.delays rules search.root own block found other fails f).line ∙ line ∙ sym due.line
 
   pub block_refused : {rules : Rules} {searches : List Search} {log : LogValue} {before : Option ℕ} {next boxes : ℕ} {rest : List Search} {left : List Block}
       (search : Search) (more : List Search) (block : Block) (behind : List Block) (found fault : Fault)
@@ -141,8 +157,11 @@ module _ (m : Meaning) where
       → ((own : OwnLines) → EpochFails m.delays rules search.root own block found → BlockFault m.delays rules (next + lines_in block) own search more block behind fault)
       → IsRefused m searches rules log fault
   block_refused {rules = rules} {searches = searches} {log = log} {next = next} search more block behind found fault u same is first is_of refused fails =
+      let here = fails refused.own refused.fails in
+      let line = line_of_block rules search more block behind refused.own (next + lines_in block) found fault refused.fails here in
       refused_by rules searches log fault (u.whole (refused.own ∷ [])) same (u.own (refused.own ∷ []) (rw (is, first) (refused.are_own, tt)))
-      (u.fail (refused.own ∷ []) fault (rw (is, first) (inr (inl (is_of, fails refused.own refused.fails)))))
+      (u.given (refused.own ∷ []) fault.line (rw first (subst (λ (n : ℕ). IsWholeBefore n refused.own block) line refused.whole, tt)))
+      (u.fail (refused.own ∷ []) fault (rw (is, first) (inr (inl (is_of, here)))))
 
   -- ---- the end
 

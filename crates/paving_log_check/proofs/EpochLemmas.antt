@@ -1,5 +1,5 @@
 -- A block whose own lines pass is decided by its body.
-use Rattle.std.proofs.Common.{◌≡◌, ℕ, ◌+◌, arith, List, length, inr, Option, None, Some, Result, Ok, Err}
+use Rattle.std.proofs.Common.{◌≡◌, ℕ, ◌+◌, arith, List, length, subst, inr, Option, None, Some, Result, Ok, Err}
 use Rattle.std.specs.Prelude.{IfOk, MatchOption}
 use Rattle.grid_model.specs.Boxes.{GridBox}
 use Rattle.sat_model.specs.declared.rows.Row.{Row}
@@ -10,7 +10,7 @@ use Rattle.gnss_model.specs.declared.delays.Delays.{Delays}
 use Rattle.sat_rows.specs.declared.bases.Base.{Base}
 use Rattle.sat_rows.specs.declared.lines.SatLine.{SatLine}
 use Rattle.paving_log_check.specs.Epochs.{Counts, IsWhole}
-use Rattle.paving_log_check.specs.Forming.{EventsHold, EventsBreak, BodyHolds, BodyBreaks, EpochHolds, EpochBreaks}
+use Rattle.paving_log_check.specs.Forming.{AreManyBefore, EventsHold, EventsBreak, BodyHolds, BodyBreaks, EpochHolds, EpochBreaks}
 use Rattle.paving_log_check.specs.Lines.{expected, SatsPass}
 use Rattle.paving_log_check.specs.declared.verdict.Fault.{Fault}
 
@@ -29,6 +29,7 @@ module _ (delays : Delays) (rules : Rules) (root : GridBox) (lines : List SatLin
   body_decides (Some fault) counts sats whole is h = record {
     renewed = h.renewed;
     formed = rw is h.formed;
+    many = rw is h.many;
     fails = inr (inr (inr (record { counts = counts; sats = sats; whole = whole; body = body; is_body = is; fails = h.fails })));
   }
 
@@ -58,6 +59,7 @@ module _ (delays : Delays) (rules : Rules) (root : GridBox) (lines : List SatLin
   body_at (Ok (Some fault)) firsts line same is (k, f, at) begins = record {
     renewed = f.renewed;
     formed = f.formed;
+    many = subst (λ (n : ℕ). AreManyBefore bases n body.events f.renewed) (omega (arith, at, begins)) f.many;
     fails = inr (record { same = same; k = k; fails = rw same (rw is at f.fails); line = omega (arith, at, begins) });
   }
   body_at (Err e) firsts line same is h begins = tt

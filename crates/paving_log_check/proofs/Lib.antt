@@ -2,6 +2,7 @@ pub mod FewLemmas
 pub mod StepLemmas
 pub mod BlockLemmas
 pub mod SatLineLemmas
+pub mod BeforeLemmas
 pub mod EpochLemmas
 pub mod FirstFaultLemmas
 pub mod FitLemmas

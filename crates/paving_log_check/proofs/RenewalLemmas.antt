@@ -194,6 +194,7 @@ module _ (delays : Delays) (root part : GridBox) (firsts : List Row) (bases : Li
     record IsBroken (i : ℕ) (left : List Base) (rows : List Row) (k : ℕ) (fault : Fault) : Type 0 where
       pub given : List Row
       pub formed : AreFormed delays root part left given
+      pub many : min (length left) k ≤ length given
       pub fails : (renewed : List (List Row)) (j : ℕ) (all : List Row)
           → slice_get renewed j ≡ Some all → IsGivenFrom all i given
           → LinesFail (own_tests delays renewed) (rows_over root firsts) j i rows k fault
@@ -204,13 +205,14 @@ module _ (delays : Delays) (root part : GridBox) (firsts : List Row) (bases : Li
     broken_here : (i : ℕ) (left : List Base) (row : Row) (rows : List Row) (fault : Fault)
         → AreBasesFrom i left → LineBreaks delays part firsts bases i row fault
         → IsBroken i left (row ∷ rows) 0 fault
-    broken_here i left row rows fault from (inl f) = record { given = []; formed = tt; fails = λ renewed j all at given. inl f }
+    broken_here i left row rows fault from (inl f) = record { given = []; formed = tt; many = omega arith; fails = λ renewed j all at given. inl f }
     broken_here i [] row rows fault from (inr (place, (ours, formed, fails))) = absurd (let none = base_at i [] from in rw none at formed)
     broken_here i (base ∷ left) row rows fault from (inr (place, (ours, formed, fails))) =
         let some = base_at i (base ∷ left) from in
         record {
           given = ours ∷ [];
           formed = ((inside, rw some at formed), tt);
+          many = omega arith;
           fails = λ renewed j all at given. inr (place, (ours, (all, at, given_at all i (ours ∷ []) given), fails));
         }
 
@@ -229,6 +231,7 @@ module _ (delays : Delays) (root part : GridBox) (firsts : List Row) (bases : Li
         record {
           given = [];
           formed = tt;
+          many = omega arith;
           fails = λ renewed j all at given. (
             (place, passes_none renewed j all at i row given),
             later.fails renewed j all at (subst (IsGivenFrom all (suc i)) (sym none) (none_next all i given)),
@@ -242,6 +245,7 @@ module _ (delays : Delays) (root part : GridBox) (firsts : List Row) (bases : Li
         record {
           given = one.one ∷ later.given;
           formed = ((inside, one.formed), later.formed);
+          many = omega (arith, later.many);
           fails = λ renewed j all at given. (
             (place, passes_some renewed j all at i one.one later.given row given (subst (HoldsFormed delays row) one.is_one holds)),
             later.fails renewed j all at (given_next all i one.one later.given given),
@@ -277,13 +281,14 @@ module _ (delays : Delays) (root part : GridBox) (firsts : List Row) (bases : Li
       record {
         given = b.given;
         formed = b.formed;
+        many = omega (arith, b.many);
         fails = λ renewed j at. (holds, b.fails renewed j b.given at (whole_given b.given));
       }
 
   pub renewal_box_breaks : (boxes : Subpaving) (rows : List Row) (fault : Fault)
       → (HoldsLive root boxes part → ⊥) → fault.number ≡ 65 → ShowsNoSpans fault
       → RenewalBreaks delays root firsts bases boxes (rows_over part rows) 0 fault
-  renewal_box_breaks boxes rows fault not number plain = record { given = []; formed = tt; fails = λ renewed j at. (not, number, plain) }
+  renewal_box_breaks boxes rows fault not number plain = record { given = []; formed = tt; many = omega arith; fails = λ renewed j at. (not, number, plain) }
 
 -- ---- where a row can be formed
 

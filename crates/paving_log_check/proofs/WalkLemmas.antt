@@ -1,5 +1,5 @@
 -- What the rest of the steps and renewals shows is shown of all of them.
-use Rattle.std.proofs.Common.{◌≡◌, ℕ, zero, suc, ◌+◌, arith, List, [], ◌∷◌, ◌++◌, length, subst, refl, sym, ap, append_assoc, inl, inr, Some}
+use Rattle.std.proofs.Common.{◌≡◌, ℕ, zero, suc, ◌+◌, ◌-◌, arith, List, [], ◌∷◌, ◌++◌, length, subst, refl, sym, ap, append_assoc, inl, inr, Some}
 use Rattle.std.specs.Prelude.{slice_get}
 use Rattle.gnss_model.specs.declared.delays.Delays.{Delays}
 use Rattle.grid_model.specs.Boxes.{GridBox}
@@ -14,10 +14,12 @@ use Rattle.sat_model.specs.declared.steps.Step.{Step}
 use Rattle.sat_model.proofs.EventLemmas.{lines_of_made, lines_behind}
 use Rattle.sat_rows.specs.declared.bases.Base.{Base}
 use Rattle.paving_log_check.specs.Answers.{ShowsNoSpans}
-use Rattle.paving_log_check.specs.Forming.{AreAllFormed, AreAsMany, RenewalHolds, RenewalBreaks, EventsHold, EventsBreak}
+use Rattle.paving_log_check.specs.Forming.{AreAllFormed, AreAsMany, AreManyBefore, RenewalHolds, RenewalBreaks, EventsHold, EventsBreak}
 use Rattle.paving_log_check.specs.Renewed.{HoldsGiven, own_tests}
 use Rattle.paving_log_check.specs.Steps.{StepsPass, StepsFail, stage_behind}
 use Rattle.paving_log_check.specs.declared.verdict.Fault.{Fault}
+use Rattle.paving_log_check.proofs.BeforeLemmas.{none_before, many_behind, many_among}
+use Rattle.paving_log_check.proofs.BlockLemmas.{renewal_within}
 
 -- ---- steps before other events
 
@@ -80,6 +82,8 @@ module _ (delays : Delays) (root : GridBox) (firsts : List Row) (bases : List Ba
         → AreAllFormed delays root bases (renewals_in all) (given ++ more)
     pub whole : (more : List (List Row)) → AreAsMany bases (renewals_in events) more
         → AreAsMany bases (renewals_in all) (given ++ more)
+    pub before : (more : List (List Row)) (k : ℕ) → AreManyBefore bases k events more
+        → AreManyBefore bases (offset + k) all (given ++ more)
     pub pass : (more : List (List Row)) → PassFrom (given ++ more) j stage events
         → PassFrom (given ++ more) 0 start all
     pub fail : (more : List (List Row)) (k : ℕ) (fault : Fault)
@@ -93,6 +97,7 @@ module _ (delays : Delays) (root : GridBox) (firsts : List Row) (bases : List Ba
     many = refl;
     formed = λ more h. h;
     whole = λ more h. h;
+    before = λ more k h. subst (λ (n : ℕ). AreManyBefore bases n all more) (omega arith) h;
     pass = λ more h. h;
     fail = λ more k fault h. subst (λ (n : ℕ). FailFrom more 0 start all n fault) (omega arith) h;
     lines = omega arith;
@@ -115,6 +120,8 @@ module _ (delays : Delays) (root : GridBox) (firsts : List Row) (bases : List Ba
           many = w.many;
           formed = λ more h. w.formed more (subst (λ (l : List RowsOver). AreAllFormed delays root bases l more) (sym same) h);
           whole = λ more h. w.whole more (subst (λ (l : List RowsOver). AreAsMany bases l more) (sym same) h);
+          before = λ more k h. subst (λ (n : ℕ). AreManyBefore bases n all (w.given ++ more)) (omega arith)
+              (w.before more (length steps + k) (many_behind bases steps events more k h));
           pass = λ more h. w.pass more (passes_behind (HoldsGiven delays (w.given ++ more)) (rows_over root firsts) rules done j stage steps events passes h);
           fail = λ more k fault h. subst (λ (n : ℕ). FailFrom (w.given ++ more) 0 start all n fault) (omega arith)
               (w.fail more (length steps + k) fault (fails_behind (own_tests delays (w.given ++ more)) (rows_over root firsts) rules done j stage steps events k fault passes h));
@@ -127,6 +134,7 @@ module _ (delays : Delays) (root : GridBox) (firsts : List Row) (bases : List Ba
     walked_steps_fail k fault fails plain = record {
       renewed = w.given ++ [];
       formed = w.formed [] tt;
+      many = w.before [] k (many_among bases rules stage steps events [] k fault.number fails);
       fails = w.fail [] k fault (fails_among (own_tests delays (w.given ++ [])) (rows_over root firsts) rules done j stage steps events k fault fails plain);
     }
 
@@ -140,6 +148,10 @@ module _ (delays : Delays) (root : GridBox) (firsts : List Row) (bases : List Ba
       many = omega (arith, w.many, length_more w.given h.given);
       formed = λ more f. subst (λ (l : List (List Row)). AreAllFormed delays root bases (renewals_in all) l) (sym (one_behind w.given h.given more)) (w.formed (h.given ∷ more) (h.formed, f));
       whole = λ more f. subst (λ (l : List (List Row)). AreAsMany bases (renewals_in all) l) (sym (one_behind w.given h.given more)) (w.whole (h.given ∷ more) (h.many, f));
+      before = λ more k f. subst (λ (l : List (List Row)). AreManyBefore bases (offset + 1 + length new.rows + k) all l) (sym (one_behind w.given h.given more))
+          (subst (λ (n : ℕ). AreManyBefore bases n all (w.given ++ h.given ∷ more)) (omega arith)
+          (w.before (h.given ∷ more) (1 + length new.rows + k)
+          (omega (arith, h.many), subst (λ (n : ℕ). AreManyBefore bases n events more) (omega arith) f)));
       pass = λ more f.
           let same = one_behind w.given h.given more in
           let here = subst (λ (l : List (List Row)). PassFrom l (suc j) (after stage (Renewed new)) events) same f in
@@ -167,6 +179,13 @@ module _ (delays : Delays) (root : GridBox) (firsts : List Row) (bases : List Ba
     walked_renewal_fails k fault f = record {
       renewed = w.given ++ f.given ∷ [];
       formed = w.formed (f.given ∷ []) (f.formed, tt);
+      many = w.before (f.given ∷ []) k (
+        omega (arith, f.many),
+        none_before bases (k - (1 + length new.rows)) events [] (omega (
+          arith,
+          renewal_within (own_tests delays (f.given ∷ [])) (rows_over root firsts) 0 stage.boxes new k fault (f.fails (f.given ∷ []) 0 refl),
+        )),
+      );
       fails = w.fail (f.given ∷ []) k fault (inl (f.fails (w.given ++ f.given ∷ []) j (next_given w.given f.given [] j w.many)));
     }
 
@@ -187,5 +206,6 @@ module _ (delays : Delays) (root : GridBox) (firsts : List Row) (bases : List Ba
   walked_done_fails {offset = offset} fault w f plain = record {
     renewed = w.given ++ [];
     formed = w.formed [] tt;
+    many = subst (λ (n : ℕ). AreManyBefore bases n all (w.given ++ [])) (omega arith) (w.before [] 0 tt);
     fails = subst (λ (n : ℕ). FailFrom (w.given ++ []) 0 start all n fault) (omega arith) (w.fail [] 0 fault (refl, f, plain));
   }

@@ -11,6 +11,7 @@ use Rattle.paving_log_check.specs.Epochs.{EpochPasses, EpochFails}
 use Rattle.paving_log_check.specs.FileCover.{FileCover}
 use Rattle.paving_log_check.specs.Narrow.{HasNarrowRow, HasNarrowBlock}
 use Rattle.paving_log_check.specs.OwnLines.{OwnLines, renewals_of, IsOwnOf, AreOwn, HaveEachRow}
+use Rattle.paving_log_check.specs.OwnLines.{IsWholeBefore, AreWholeBefore}
 use Rattle.paving_log_check.specs.declared.verdict.Fault.{Fault}
 
 -- the same line, number and spans
@@ -29,11 +30,13 @@ module _ (m : Meaning) where
     pub whole : HaveEachRow (renewals_of block.body) own.renewed
     pub passes : EpochPasses m.delays rules search.root own block
 
-  -- this is its first fault against them, for a row too narrow with both spans
+  -- this is its first fault against them, for a row too narrow with both spans; before it they are
+  -- all given
   pub record EpochRefused (rules : Rules) (search : Search) (block : Block)
       (fault : Fault) : Type 0 where
     pub own : OwnLines
     pub are_own : IsOwnOf m search (renewals_of block.body) own
+    pub whole : IsWholeBefore fault.line own block
     pub fails : EpochFails m.delays rules search.root own block fault
     pub narrow : fault.number ≡ 53 → HasNarrowRow m search block fault
 
@@ -47,11 +50,12 @@ module _ (m : Meaning) where
     pub boxes_are : boxes ≡ kept_boxes log
 
   -- the log isn't admitted by own lines of the first searches, and for them this is its first
-  -- fault, and the only one
+  -- fault, and the only one; own rows are given for each line of a renewal that stands before it
   pub record IsRefused (searches : List Search) (rules : Rules) (log : LogValue)
       (fault : Fault) : Type 0 where
     pub owns : List OwnLines
     pub are_own : AreOwn m searches log.blocks owns
+    pub whole : AreWholeBefore fault.line owns log.blocks
     pub first : FailsFirst m.delays searches owns rules log fault
     pub refused : Admits m.delays searches owns rules log → ⊥
     pub only : (other : Fault) → FailsFirst m.delays searches owns rules log other

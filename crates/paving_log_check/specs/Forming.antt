@@ -1,11 +1,11 @@
 -- The own rows that are formed of bases while a block's renewals are tested, and what is found by
 -- them. No public clause cites it.
-use Rattle.std.specs.Prelude.{◌≡◌, ℕ, ◌⊎◌, List, [], ◌∷◌, length, min, Option, None, Some}
-use Rattle.std.specs.Prelude.{slice_get}
+use Rattle.std.specs.Prelude.{◌≡◌, ℕ, ◌-◌, ◌≤◌, ◌⊎◌, List, [], ◌∷◌, length, min, Option, None}
+use Rattle.std.specs.Prelude.{Some, slice_get}
 use Rattle.gnss_model.specs.declared.delays.Delays.{Delays}
 use Rattle.grid_model.specs.Boxes.{GridBox, IsInside}
 use Rattle.sat_model.specs.BoxTests.{test_of}
-use Rattle.sat_model.specs.Events.{Event, RowsOver, rows_over, renewals_in}
+use Rattle.sat_model.specs.Events.{Event, Made, Renewed, RowsOver, rows_over, renewals_in, lines_of}
 use Rattle.sat_model.specs.Fold.{Subpaving}
 use Rattle.sat_model.specs.Logs.{Body, Block}
 use Rattle.sat_model.specs.Renewals.{IsOfPlace, RenewalPasses, RenewalFails}
@@ -22,7 +22,7 @@ use Rattle.paving_log_check.specs.Answers.{ShowsNoSpans}
 use Rattle.paving_log_check.specs.Epochs.{BodyPassesAt, BodyFailsAt, EpochPasses}
 use Rattle.paving_log_check.specs.Epochs.{EpochFails}
 use Rattle.paving_log_check.specs.Lines.{HoldsOwn, HasBound, RowFails}
-use Rattle.paving_log_check.specs.OwnLines.{OwnLines, renewals_of}
+use Rattle.paving_log_check.specs.OwnLines.{OwnLines, renewals_of, behind_root}
 use Rattle.paving_log_check.specs.Renewed.{HoldsGiven, own_tests}
 use Rattle.paving_log_check.specs.declared.verdict.Fault.{Fault}
 
@@ -33,6 +33,20 @@ AreAsMany bases [] (given ∷ more) = ⊥
 AreAsMany bases (new ∷ renewals) [] = ⊥
 AreAsMany bases (new ∷ renewals) (given ∷ more) =
     (length given ≡ min (length bases) (length new.rows)) × AreAsMany bases renewals more
+
+-- ... for the lines that stand before the one k lines behind the first of these events
+abbrev pub AreManyBefore : List Base → ℕ → List Event → List (List Row) → Type 0
+AreManyBefore bases k [] renewed = Unit {0}
+AreManyBefore bases k (Made step ∷ events) renewed =
+    AreManyBefore bases (k - lines_of (Made step)) events renewed
+AreManyBefore bases k (Renewed new ∷ events) [] = k ≤ 1
+AreManyBefore bases k (Renewed new ∷ events) (given ∷ more) =
+    (min (length bases) (min (k - 1) (length new.rows)) ≤ length given)
+    × AreManyBefore bases (k - lines_of (Renewed new)) events more
+
+abbrev pub IsManyBefore : List Base → ℕ → Option Body → List (List Row) → Type 0
+IsManyBefore bases k None renewed = Unit {0}
+IsManyBefore bases k (Some body) renewed = AreManyBefore bases k body.events renewed
 
 abbrev pub own_lines : List SatLine → List (List Row) → OwnLines
 own_lines lines renewed = record { lines = lines; renewed = renewed }
@@ -91,11 +105,12 @@ module _ (delays : Delays) where
       pub passes : (renewed : List (List Row)) (j : ℕ) → slice_get renewed j ≡ Some given
           → RenewalPasses (HoldsGiven delays renewed) (rows_over root firsts) j boxes new
 
-    -- the first line that fails is k lines on
+    -- the first line that fails is k lines on, and before it there are as many rows
     pub record RenewalBreaks (boxes : Subpaving) (new : RowsOver) (k : ℕ)
         (fault : Fault) : Type 0 where
       pub given : List Row
       pub formed : AreFormed root new.part bases given
+      pub many : min (length bases) (k - 1) ≤ length given
       pub fails : (renewed : List (List Row)) (j : ℕ) → slice_get renewed j ≡ Some given
           → RenewalFails (own_tests delays renewed) (rows_over root firsts) j boxes new k fault
 
@@ -112,6 +127,7 @@ module _ (delays : Delays) where
         (fault : Fault) : Type 0 where
       pub renewed : List (List Row)
       pub formed : AreAllFormed root bases (renewals_in events) renewed
+      pub many : AreManyBefore bases k events renewed
       pub fails : EventsFail (own_tests delays renewed) (rows_over root firsts) rules done
           0 (first_stage (test_of rules firsts) root) events k fault
 
@@ -129,6 +145,7 @@ module _ (delays : Delays) where
     pub record BodyBreaks (fault : Fault) : Type 0 where
       pub renewed : List (List Row)
       pub formed : AreAllFormed root bases (renewals_in body.events) renewed
+      pub many : AreManyBefore bases (behind_root fault.line block) body.events renewed
       pub fails : BodyFailsAt delays rules root renewed block body fault
 
   -- all of it
@@ -143,4 +160,5 @@ module _ (delays : Delays) where
     pub record EpochBreaks (fault : Fault) : Type 0 where
       pub renewed : List (List Row)
       pub formed : AreAllFormed root bases (renewals_of block.body) renewed
+      pub many : IsManyBefore bases (behind_root fault.line block) block.body renewed
       pub fails : EpochFails delays rules root (own_lines lines renewed) block fault

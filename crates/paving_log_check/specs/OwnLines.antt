@@ -1,10 +1,11 @@
 -- What is given for a search, to test its block by: own lines over the root and, as far as they
 -- are formed, own rows over the box of each renewal.
-use Rattle.std.specs.Prelude.{◌≡◌, ℤ, List, [], ◌∷◌, length, Option, None, Some}
+use Rattle.std.specs.Prelude.{◌≡◌, ℕ, ◌+◌, ◌-◌, ◌≤◌, ℤ, List, [], ◌∷◌, length, min, Option, None}
+use Rattle.std.specs.Prelude.{Some}
 use Rattle.epoch_selection.specs.Searches.{Search}
 use Rattle.grid_model.specs.Boxes.{GridBox}
 use Rattle.rinex_obs.specs.declared.obs.SatObs.{SatObs}
-use Rattle.sat_model.specs.Events.{RowsOver, renewals_in}
+use Rattle.sat_model.specs.Events.{Event, Made, Renewed, RowsOver, renewals_in, lines_of}
 use Rattle.sat_model.specs.Logs.{Body, Block}
 use Rattle.sat_model.specs.declared.rows.Row.{Row}
 use Rattle.sat_rows.specs.Meanings.{Meaning}
@@ -77,3 +78,34 @@ AreWhole [] blocks = Unit {0}
 AreWhole (own ∷ owns) [] = ⊥
 AreWhole (own ∷ owns) (block ∷ more) =
     HaveEachRow (renewals_of block.body) own.renewed × AreWhole owns more
+
+-- ---- whether they are given for each line before another
+
+-- a row for each line of a renewal that stands before the line k lines behind the first of these
+-- events: of a renewal there, that are the k - 1 lines behind its box at most
+abbrev pub HaveRowsBefore : ℕ → List Event → List (List Row) → Type 0
+HaveRowsBefore k [] renewed = Unit {0}
+HaveRowsBefore k (Made step ∷ events) renewed =
+    HaveRowsBefore (k - lines_of (Made step)) events renewed
+HaveRowsBefore k (Renewed new ∷ events) [] = k ≤ 1
+HaveRowsBefore k (Renewed new ∷ events) (rows ∷ more) = (min (k - 1) (length new.rows) ≤ length rows)
+    × HaveRowsBefore (k - lines_of (Renewed new)) events more
+
+-- how many lines the line of this number stands behind the first step or renewal of the block
+abbrev pub behind_root : ℕ → Block → ℕ
+behind_root line block = line - (block.line + 2 + length block.sats)
+
+abbrev pub HasRowsBefore : ℕ → Option Body → List (List Row) → Type 0
+HasRowsBefore k None renewed = Unit {0}
+HasRowsBefore k (Some body) renewed = HaveRowsBefore k body.events renewed
+
+-- a row for each line of a renewal of the block that stands before the line of this number
+abbrev pub IsWholeBefore : ℕ → OwnLines → Block → Type 0
+IsWholeBefore line own block = HasRowsBefore (behind_root line block) block.body own.renewed
+
+-- ... of each block
+abbrev pub AreWholeBefore : ℕ → List OwnLines → List Block → Type 0
+AreWholeBefore line [] blocks = Unit {0}
+AreWholeBefore line (own ∷ owns) [] = Unit {0}
+AreWholeBefore line (own ∷ owns) (block ∷ more) =
+    IsWholeBefore line own block × AreWholeBefore line owns more

@@ -4,6 +4,7 @@ use Rattle.grid_model.specs.Boxes.{grid_box}
 use Rattle.sat_model.specs.Logs.{rows_of, lines_of_body}
 use Rattle.paving_log.specs.Values.{body_value, body_option, block_of}
 use Rattle.paving_log.proofs.OwnLemmas.{rows_le_lines}
+use Rattle.paving_log_check.proofs.BeforeLemmas.{none_before}
 use Rattle.paving_log_check.proofs.EpochLemmas.{body_at}
 use Rattle.paving_log_check.proofs.epochs.body_fault.Goals as goal
 
@@ -11,6 +12,7 @@ pub returns-then-not-is_same_box : goal.returns-then-not-is_same_box
 returns-then-not-is_same_box c = record {
   renewed = [];
   formed = tt;
+  many = none_before c.args.given.now.own.now.bases.items _ (body_value c.args.body.now).events [] (omega (arith, c.plain_fault.ensures.line, c.len.ensures));
   fails = inl (record {
     differs = λ is. false≢true (sym c.if-not-is_same_box.true ∙ c.is_same_box.ensures.1 is);
     line = omega (arith, c.plain_fault.ensures.line, c.len.ensures);

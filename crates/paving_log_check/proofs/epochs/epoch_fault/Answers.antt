@@ -1,10 +1,25 @@
-use Rattle.std.proofs.Common.{arith, ap, inl, inr, length, [], ◌∙◌}
+use Rattle.std.proofs.Common.{arith, ap, inl, inr, length, sym, [], ◌∙◌}
+use Rattle.std.proofs.lemmas.Bool.{false≢true}
 use Rattle.grid_model.specs.Boxes.{grid_box}
 use Rattle.paving_log.specs.Values.{body_value, body_option, block_of}
 use Rattle.paving_log_check.specs.Epochs.{IsWhole}
 use Rattle.paving_log_check.specs.Lines.{expected}
+use Rattle.paving_log_check.proofs.BeforeLemmas.{none_in_body}
 use Rattle.paving_log_check.proofs.EpochLemmas.{body_decided}
 use Rattle.paving_log_check.proofs.epochs.epoch_fault.Goals as goal
+
+pub returns-then-not-has_counts : goal.returns-then-not-has_counts
+returns-then-not-has_counts c = record {
+  renewed = [];
+  formed = tt;
+  many = none_in_body c.args.given.now.own.now.bases.items _ (block_of c.args.epoch.now).body [] (omega (arith, c.plain_fault.ensures.line));
+  fails = inl (record {
+    differs = λ is. false≢true (sym c.if-not-has_counts.true ∙ c.has_counts.ensures.1 is);
+    line = c.plain_fault.ensures.line;
+    number = c.plain_fault.ensures.number;
+    no_spans = c.plain_fault.ensures.no_spans;
+  });
+}
 
 pub returns-in-Some : goal.returns-in-Some
 returns-in-Some c =
@@ -15,6 +30,7 @@ returns-in-Some c =
     record {
       renewed = [];
       formed = tt;
+      many = none_in_body c.args.given.now.own.now.bases.items _ (block_of c.args.epoch.now).body [] (omega (arith, at, fails.is_line));
       fails = inr (inl (record { counts = c.has_counts.ensures.0 c.if-not-has_counts.false; k = k; fails = fails; line = at }));
     }
 
@@ -26,6 +42,8 @@ returns-then-len c =
     record {
       renewed = [];
       formed = tt;
+      many = none_in_body c.args.given.now.own.now.bases.items _ (block_of c.args.epoch.now).body []
+          (omega (arith, c.plain_fault-then-len.ensures.line, c.len-then-len.ensures, c.args.epoch.now.sats.ok));
       fails = inr (inr (inl (record {
         counts = c.has_counts.ensures.0 c.if-not-has_counts.false;
         sats = rw (c.deref.ensures.value, lines) at passes;
