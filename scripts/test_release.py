@@ -45,7 +45,7 @@ class Repository:
     def __init__(self, room):
         self.room, self.top, self.bin = room, room / "repository", room / "bin"
         self.bin.mkdir()
-        for name in ("gpscover", "scripts/program.sh", "scripts/release.sh", "scripts/coverlog.py", "CHANGELOG.md", "HANDLES"):
+        for name in ("gpscover", "scripts/program.sh", "scripts/release.sh", "python/src/gpscover/log.py", "CHANGELOG.md", "HANDLES"):
             self.write(name, (TOP / name).read_bytes())
             os.chmod(self.top / name, 0o755)
         self.write("crates.txt", b"# comment\nlow:\nother: low\ngpscover: low # of both\n")
