@@ -42,7 +42,7 @@ class Station:
     navigation: tuple
     settings: str
     place: tuple  # x, y, z in mm, or None
-    bounds: str  # words of scripts/bounds.py behind the place, or an empty text
+    bounds: str  # words of `gpslog bounds` behind the place, or an empty text
 
 
 def date_of(value, key):

@@ -1,6 +1,6 @@
 """The database of a run, and the page of it. Both are the same bytes for the same days, whatever made them and when.
 
-epochs  a line an epoch, as `summary.py --csv` has it, with station, day and part
+epochs  a line an epoch, as `gpslog summary --csv` has it, with station, day and part
 files   the files of each part with size, checksum, and what was said of them:
         role observations, navigation (as they were given), obs, nav, settings (as the program read them), log
 absent  days that were left out since they have no observation file

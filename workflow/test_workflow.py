@@ -4,7 +4,7 @@ Two recorded stations with a day of two parts each are solved, checked and table
 killed, files changed or taken away, and a disk filled. Each time the run has to end with a line that names
 station, day and part, the other parts have to be done, and the next run has to make the same tables to the
 byte. With --slurm the same is run on a Slurm, with a node that is drained and one that is lost:
-scripts/slurm_here.sh --nodes 2 -- python3 -m pytest workflow --slurm --program PROGRAM.
+scripts/slurm_here.sh --nodes 2 -- python3 -m pytest workflow --slurm --program=PROGRAM.
 """
 import gzip
 import os

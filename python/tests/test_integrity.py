@@ -239,9 +239,9 @@ class TestWords:
         ) as (log, other, utc, out):
             for script, words in (
                 (summary, [log]),
-                (picture, ["time", log, f"{out}.png"]),
-                (picture, ["region", log, f"{out}.png"]),
-                (picture, ["integrity", log, f"{out}.png"]),
+                (pictures, ["time", log, f"{out}.png"]),
+                (pictures, ["region", log, f"{out}.png"]),
+                (pictures, ["integrity", log, f"{out}.png"]),
             ):
                 with pytest.raises(
                     Error, match="no place within 0.1 s of .* are of 2008-05-27 05:59:29.999"

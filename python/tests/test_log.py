@@ -1,11 +1,9 @@
 """Logs of steps that were counted by hand, and logs that are none."""
 
-from pathlib import Path
-
 import pytest
-from made_logs import HEAD, PAVED, RECORDED, RENEWED, epoch_of, epochs_of
+from made_logs import HEAD, PAVED, RENEWED, epoch_of, epochs_of
 
-from gpscover import Error, summary
+from gpscover import Error
 from gpscover.log import calendar
 from gpscover.log import epochs as read_epochs
 

@@ -20,7 +20,7 @@ import chromium
 import pytest
 from made_logs import EXAMPLES, RECORDED, ended_with
 
-from gpscover import Error, geodesy, page, page_figures, region, summary
+from gpscover import Error, geodesy, page, region, summary
 from gpscover.log import calendar
 from gpscover.log import epochs as read_epochs
 from gpscover.outline import outline

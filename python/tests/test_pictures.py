@@ -1,7 +1,6 @@
 """Pictures: what is drawn, and that it is."""
 
 import os
-import re
 import tempfile
 from pathlib import Path
 
@@ -12,15 +11,12 @@ from made_logs import (
     PAVED,
     RECORDED,
     TUBE,
-    WITHIN,
     ended_with,
     epoch_of,
-    logs_with_places,
     written,
 )
 
-from gpscover import Error, pictures, region
-from gpscover import places
+from gpscover import Error, pictures, places, region
 from gpscover.log import epochs as read_epochs
 
 
@@ -139,9 +135,9 @@ class TestPicturedZones:
 
 
 class TestPicturedTracks:
-    def tube(self, text, places=()):
+    def tube(self, text, known=()):
         with written(log=HEAD + text) as (path,):
-            return pictures.tube_of(path, places.Meetings("known", list(places)))
+            return pictures.tube_of(path, places.Meetings("known", list(known)))
 
     def test_its_outlines_places_and_the_search_box_where_it_is_lost(self):
         tube = self.tube(TUBE + LOST, [(895816770999 * 10**9, (6378137.0, 28.0, 4.0))])

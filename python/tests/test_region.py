@@ -3,9 +3,10 @@
 import math
 
 import pytest
-from made_logs import PAVED, box_at, epoch_of, epochs_with_places, logs_with_places
+from made_logs import PAVED, RECORDED, box_at, epoch_of, epochs_with_places, logs_with_places
 
-from gpscover import geodesy, region
+from gpscover import geodesy, region, summary
+from gpscover.log import epochs as read_epochs
 from gpscover.outline import outline
 
 

@@ -1,18 +1,14 @@
 """Probabilities against sums by hand."""
 
-import contextlib
 import decimal
-import io
 import itertools
 import math
 import os
-import re
 import tempfile
 from fractions import Fraction
 from pathlib import Path
 
-import pytest
-from made_logs import RECORDED, ended, ended_with
+from made_logs import RECORDED, ended_with
 
 from gpscover import risk
 

@@ -10,7 +10,6 @@ from made_logs import (
     HEAD,
     LOST,
     PAVED,
-    RECORDED,
     ROOT,
     TUBE,
     WITHIN,

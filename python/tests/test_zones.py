@@ -19,7 +19,7 @@ from pathlib import Path
 import pytest
 from made_logs import EXAMPLES, RECORDED, ended, ended_with
 
-from gpscover import Error, shapes, zones
+from gpscover import shapes, zones
 from gpscover.geodesy import dot, earth_fixed
 from gpscover.log import epochs as read_epochs
 from gpscover.program import own_program
@@ -152,12 +152,12 @@ class TestPlaces:
         draw = random.Random(1)
         for number in range(DRAWN):
             place = drawn_place(draw)
-            (grown,) = prisms(shapes.place_lines("a", *place, "outside"))
+            (grown,) = prisms(shapes.place_lines("a", place[:3], *place[3:], "outside"))
             for _ in range(3):
                 assert holds(grown, um(around(draw, place))), (number, place)
             if number % 50:
                 continue
-            (shrunk,) = prisms(shapes.place_lines("a", *place, "inside"))
+            (shrunk,) = prisms(shapes.place_lines("a", place[:3], *place[3:], "inside"))
             self.assert_corners_within(shrunk, place)
 
     def assert_corners_within(self, sides, place):
@@ -183,7 +183,7 @@ class TestPlaces:
         near = [(tuple(p - 10**6 for p in middle), tuple(p + 10**6 for p in middle))]
         far = [(tuple(p + 40 * 10**6 for p in middle), tuple(p + 41 * 10**6 for p in middle))]
         for purpose in ("outside", "inside"):
-            (sides,) = prisms(shapes.place_lines("a", *place, purpose))
+            (sides,) = prisms(shapes.place_lines("a", place[:3], *place[3:], purpose))
             assert [answer(sides, boxes) for boxes in (near, far, near + far, [])] == [
                 "inside",
                 "outside",
@@ -499,7 +499,9 @@ class TestGuards:
             timeout=600,
         )
         assert (ran.returncode, ran.stderr) == (0, "")
-        boxes = ((e.index, None if e.few else [kept.box for kept in e.kept]) for e in epochs(log))
+        boxes = (
+            (e.index, None if e.few else [kept.box for kept in e.kept]) for e in read_epochs(log)
+        )
         wanted = list(zones.lines(*zones.read_zones(path), boxes))
         assert ran.stdout == "".join(line + "\n" for line in wanted)
         return wanted
@@ -507,7 +509,9 @@ class TestGuards:
     def test_a_thousand_drawn_zones_on_both_logs(self):
         draw, said = random.Random(6), set()
         for log, options in self.logs.items():
-            regions = [[kept.box for kept in epoch.kept] for epoch in epochs(log) if epoch.kept]
+            regions = [
+                [kept.box for kept in epoch.kept] for epoch in read_epochs(log) if epoch.kept
+            ]
             for part in range(3):
                 count = DRAWN // 6 + 1
                 text = [
@@ -529,7 +533,7 @@ class TestGuards:
     def test_the_first_form_has_no_totals(self):
         path = self.folder / "first.zones"
         for log, options in self.logs.items():
-            hull = hull_of([kept.box for epoch in epochs(log) for kept in epoch.kept])
+            hull = hull_of([kept.box for epoch in read_epochs(log) for kept in epoch.kept])
             path.write_text(
                 "gpszones 1\nzone far 0 0 0 1 1 1\nzone all {} {} {} {} {} {}\n".format(*hull),
                 encoding="utf-8",

@@ -30,6 +30,7 @@ __all__ += ["progress_bar", "retrack", "solve", "track"]
 
 Progress = Callable[[int], None]  # is called with the number of each epoch that is done
 
+YES = re.compile(r"yes (\d+)")
 NO = re.compile(r"no (\d+) (\w+) line (\d+)(.*)")
 REFUSED = re.compile(r"(settings|nav|obs|zones|log|rows) (\d+) (\w+)(?: line (\d+))?(.*)")
 
@@ -199,10 +200,13 @@ def track(
 def verdict_of(words: list[str]) -> Verdict:
     """What a run of a checker says."""
     (said,) = list(lines_of(words)) or [""]
-    found = no_of(said)
-    if found is None and not said.startswith("yes "):
+    failed = no_of(said)
+    if failed is not None:
+        return failed
+    found = YES.fullmatch(said)
+    if found is None:
         raise ProgramError(1, said)
-    return found or Verdict(True, int(said.split(" ")[1]))
+    return Verdict(True, int(found[1]))
 
 
 def checked(

@@ -1,0 +1,69 @@
+"""Settings as dataclasses: they read back as they were written."""
+
+import pytest
+from hypothesis import given
+from hypothesis import strategies as st
+from made_logs import EXAMPLES
+
+from gpscover.settings import Bounds, Galileo, Search, Settings, SettingsError, Signal
+
+LENGTH = st.integers(-(10**6), 10**6)
+PAIR = st.tuples(LENGTH, LENGTH).map(lambda ends: (min(ends), max(ends)))
+THREE = st.tuples(LENGTH, LENGTH, LENGTH)
+CODES = st.sampled_from([("C1C",), ("C1C", "C2W")])
+SEARCHES = st.builds(
+    Search,
+    half=st.one_of(st.integers(1, 10**8), THREE),
+    outliers=st.integers(0, 8),
+    bisections=st.integers(0, 200_000),
+    centre=st.one_of(st.just("header"), THREE),
+    renew=st.one_of(st.none(), st.booleans()),
+)
+BOUNDS = st.builds(
+    Bounds, receiver=PAIR, orbit_clock=PAIR, ionosphere=PAIR, troposphere=PAIR, zenith=st.none()
+)
+SETTINGS = st.builds(
+    Settings,
+    search=SEARCHES,
+    signal=st.builds(Signal, mode=st.sampled_from(["single", "dual"]), codes=CODES),
+    bounds=BOUNDS,
+    galileo=st.one_of(st.none(), st.builds(Galileo, codes=CODES, offset=PAIR)),
+    speed=st.one_of(st.none(), st.integers(0, 10**6)),
+    satellites=st.dictionaries(st.sampled_from(["G01", "G32", "E05"]), PAIR),
+)
+
+
+@given(SETTINGS)
+def test_they_read_back(settings):
+    assert Settings.from_toml(settings.to_toml()) == settings
+
+
+def test_the_example_s():
+    settings = Settings.read(EXAMPLES / "settings.toml")
+    assert (settings.search.half, settings.search.pairs) == (1000000, True)
+    assert settings.satellites["G26"] == (16285, 47246)
+    assert (settings.speed, settings.galileo) == (None, None)
+
+
+@pytest.mark.parametrize(
+    "text",
+    (
+        "",
+        "[search",
+        "search = 1\n",
+        "[more]\n",
+        "[search]\nhalf = 1\n[signal]\n[bounds]\n",
+        "[search]\nhalf = nan\n[signal]\n[bounds]\n",
+        "[search]\nhalf = {}\n[signal]\n[bounds]\n",
+        "[search]\nhalf = 1979-05-27\n[signal]\n[bounds]\n",
+    ),
+)
+def test_what_is_none_is_refused_in_one_line(text, tmp_path):
+    path = tmp_path / "settings.toml"
+    path.write_text(text, encoding="utf-8")
+    with pytest.raises(SettingsError) as refused:
+        Settings.read(path)
+    assert str(refused.value).count("\n") == 0
+    path.write_bytes(b"\xff")
+    with pytest.raises(SettingsError):
+        Settings.read(path)
