@@ -72,7 +72,7 @@ fn made_inputs(alloc: Global, seed: u32, epochs: u32) -> Result<Inputs, Notice>
         return Err(Notice::NoMemory);
     };
     let settings = faultless_settings(alloc, &made.settings)?;
-    let nav = read_faultless(alloc, made.nav, &NavText { both: false })?;
+    let nav = read_faultless(alloc, made.nav, &NavText { galileo: None })?;
     let position = wants_position(settings.centre);
     let sought = Sought::alone(settings.signal);
     let text = ObsText {
