@@ -59,8 +59,8 @@ fn half_of(lo: i64, hi: i64) -> u64
     (hi - middle_of(lo, hi)) as u64
 }
 
-/// The middle of two ends, rounded down.
-pub(crate) fn middle_of(lo: i64, hi: i64) -> i64
+/// The middle of two ends, rounded down, in um.
+pub fn middle_of(lo: i64, hi: i64) -> i64
     requires ordered { lo ≤ℤ hi }
     requires lo_within { IsPlaceSize lo }
     requires hi_within { IsPlaceSize hi }

@@ -16,7 +16,8 @@ mod row_forms;
 mod search;
 mod shown;
 
+pub use axes::middle_of;
 pub use forms::Form;
 pub use laws::{empty_or_not, nothing_fits};
 pub use row_forms::form_of;
-pub use shown::shown_empty_by_pairs;
+pub use shown::{forms_of, shown_empty_by_pairs, without};
