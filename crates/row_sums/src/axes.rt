@@ -7,17 +7,7 @@ ghost use Rattle.row_pairs.specs.Leasts.{IsLeastTerm};
 
 use crate::half_spaces::HalfSpace;
 use grid_model::Box3;
-
-/// The middle of a side, rounded down.
-fn middle_of(lo: i64, hi: i64) -> i64
-    requires ordered { lo ≤ℤ hi }
-    requires lo_within { IsBoxSize lo }
-    requires hi_within { IsBoxSize hi }
-    ensures value { result ≡ middle (record { lo = lo; hi = hi }) }
-    ensures between { (lo ≤ℤ result) × (result ≤ℤ hi) }
-{
-    lo + (hi - lo) / 2
-}
+use row_pairs::middle_of;
 
 /// A slope less `aim` times the direction's component on its axis.
 pub(crate) fn aimed_slope(slope: i64, aim: u64, component: i64) -> i128

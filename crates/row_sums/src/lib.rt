@@ -12,6 +12,7 @@
 mod adding;
 mod axes;
 mod covered;
+mod disjoint;
 mod form_sum;
 mod half_spaces;
 mod laws;
@@ -20,7 +21,8 @@ mod row_sums;
 mod shown;
 mod totals;
 
+pub use covered::uncovered_choice;
 pub use half_spaces::HalfSpace;
 pub use laws::{all_lies_in, fits_lies_in};
 pub use row_sums::{RowSum, Term};
-pub use shown::shows_half_space;
+pub use shown::{forms_show, shows_half_space};

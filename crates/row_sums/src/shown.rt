@@ -1,18 +1,17 @@
 //! Whether sums of rows show a half-space, whichever q rows are left out.
 
-ghost use Rattle.std.specs.Prelude.{◌≡◌, ◌≤◌, ◌↔◌, IsTrue, length, map, All};
+ghost use Rattle.std.specs.Prelude.{◌≤◌, ◌↔◌, IsTrue, length, map, All};
 ghost use Rattle.grid_model.specs.Boxes.{grid_box};
 ghost use Rattle.row_pairs.specs.FormValues.{form_value};
-ghost use Rattle.sat_model.specs.Pairs.{form_of};
-ghost use Rattle.row_sums.specs.HalfSpaces.{IsShownBy, ShowHalfSpace};
+ghost use Rattle.row_sums.specs.HalfSpaces.{IsShownBy, FormsShow, ShowHalfSpace};
 
-use crate::covered::is_covered;
+use crate::covered::uncovered_choice;
 use crate::half_spaces::HalfSpace;
 use crate::one_sum::is_shown_by;
 use crate::row_sums::RowSum;
 use arrayvec::ArrayVec;
 use grid_model::Box3;
-use row_pairs::{Form, form_of};
+use row_pairs::{Form, forms_of};
 use sat_model::Row;
 
 /// Whether the sums are a certificate that all but `q` rows are possible at no point of the box that
@@ -25,23 +24,18 @@ pub fn shows_half_space(rows: &[Row], part: &Box3, q: u8, half: &HalfSpace, sums
         ↔ ShowHalfSpace rows.now (grid_box part.now) q half.now sums.now }
 {
     let forms: ArrayVec<Form, 64> = forms_of(rows, part);
-    if !are_shown(&forms, part, half, sums) {
-        return false;
-    }
-    let kept = [true; 64];
-    is_covered(sums, &kept, q)
+    forms_show(&forms, part, q, half, sums)
 }
 
-/// The rows' forms.
-fn forms_of<const N: usize>(rows: &[Row], part: &Box3) -> ArrayVec<Form, N>
-    requires { length rows.now ≤ N }
-    ensures { map form_value result.items ≡ map (form_of (grid_box part.now)) rows.now }
+/// The same by the rows' forms over the box, which serve all half-spaces of an epoch.
+pub fn forms_show(forms: &[Form], part: &Box3, q: u8, half: &HalfSpace, sums: &[RowSum]) -> bool
+    ensures { IsTrue result ↔ FormsShow (map form_value forms.now) (grid_box part.now) q half.now
+        sums.now }
 {
-    let mut forms = ArrayVec::new();
-    for row in rows {
-        forms.push(form_of(row, part));
+    if !are_shown(forms, part, half, sums) {
+        return false;
     }
-    forms
+    uncovered_choice(sums, q).is_none()
 }
 
 /// Whether each of the sums shows the half-space.
