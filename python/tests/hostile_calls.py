@@ -2,10 +2,10 @@
 
 usage: PYTHONPATH=python/src python3 python/tests/hostile_calls.py [CALLS] [SEED]
 
-Files are cut, changed in some bytes, not UTF-8, huge in a number, folders or not there. A call is to
-end with 0, 2 or 3, or with 1 and one line on standard error. The last line is
-`hostile calls: N passed, M failed`; a call that fails is printed with its traceback. Exit status: 0,
-or 1 where one failed.
+Files are cut, changed in some bytes, not UTF-8, huge in a number, folders or not there. A call is
+to end with 0, 2 or 3, or with 1 and one line on standard error. The last line is `hostile calls: N
+passed, M failed`; a call that fails is printed with its traceback. Exit status: 0, or 1 where one
+failed.
 """
 
 import os

@@ -32,7 +32,8 @@ STEPS = (
     "done 2\n"
 )
 PAVED = "epoch 1 895816769999000000000 5\n" + ROOT + STEPS
-# In the same search box one of 4 m up, 10 m east and 20 m north is kept, which no face of it touches.
+# In the same search box one of 4 m up, 10 m east and 20 m north is kept, which no face of it
+# touches.
 WITHIN = (
     "epoch 1 895816769999000000000 5\n"
     + ROOT
@@ -51,7 +52,8 @@ def tube_root(*ends):
     return "root " + " ".join(str(end * 10**6) for end in ends) + "\n"
 
 
-# Behind this epoch two of a track, 5 m being the reach: one keeps its whole search box, one keeps no box.
+# Behind this epoch two of a track, 5 m being the reach: one keeps its whole search box, one keeps
+# no box.
 TUBE = (
     WITHIN
     + "epoch 2 895816770999000000000 5\n"
@@ -126,7 +128,8 @@ def ended(module, *words):
 
 @contextlib.contextmanager
 def written(**texts):
-    """The paths of files with these texts, in their order, in a folder that is removed behind it."""
+    """The paths of files with these texts, in their order, in a folder that is removed behind
+    it."""
     with tempfile.TemporaryDirectory() as room:
         paths = [Path(room) / name for name in texts]
         for path, text in zip(paths, texts.values()):

@@ -96,7 +96,8 @@ CHANGES = (
 
 
 def receiver_in(room, more="", change=lambda text: text):
-    """The example's files in a folder, and the name of a log: eight splits, more of the settings, other observations."""
+    """The example's files in a folder, and the name of a log: eight splits, more of the settings,
+    other observations."""
     files = [room / name for name in ("my.obs", "my.nav", "my.toml", "my.log")]
     obs, nav, settings = (
         (EXAMPLES / name).read_text(encoding="utf-8")
@@ -109,7 +110,8 @@ def receiver_in(room, more="", change=lambda text: text):
 
 
 def bundle_of(room, files, last, track=False):
-    """A bundle of the epochs up to a last one, the status of making it, and what it says by the names of its lines."""
+    """A bundle of the epochs up to a last one, the status of making it, and what it says by the
+    names of its lines."""
     command, more = ("track", ["--track"]) if track else ("solve", [])
     options = ["--to", str(last)]
     subprocess.run([PROGRAM, command, *files, *options], stdout=subprocess.DEVNULL, check=True)

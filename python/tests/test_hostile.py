@@ -13,7 +13,10 @@ from gpscover import Error, bounds, geodesy, places, summary, suspects, zones
 
 
 class TestHostile:
-    """Texts and words that nobody should write. Each ends a script with a status and a line of its own."""
+    """Texts and words that nobody should write.
+
+    Each ends a script with a status and a line of its own.
+    """
 
     # Behind the head of a log, and the number of the line that is none.
     NO_LOGS = (

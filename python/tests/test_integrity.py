@@ -55,20 +55,24 @@ class TestCorners:
             assert length == pytest.approx(right, rel=0, abs=0.005)
 
     def test_two_boxes_at_the_equator(self):
-        # Kept are y -100 to 0 with z -100 to 100, and y 20 to 100 with z -100 to 50, both with x up to 100 m above the
-        # ellipsoid. From (13 m up, 10 m west, 5 m north) the corner (100, -100) is farthest: 110 m east, 105 m south.
+        # Kept are y -100 to 0 with z -100 to 100, and y 20 to 100 with z -100 to 50, both with x up
+        # to 100 m above the
+        # ellipsoid. From (13 m up, 10 m west, 5 m north) the corner (100, -100) is farthest: 110 m
+        # east, 105 m south.
         found = numbers(PAVED, (6378150, -10, 5), math.radians(90))
         assert found.held
         self.assert_lengths(
             (found.hpl, found.vpl, found.along, found.across), (math.hypot(110, 105), 87, 110, 105)
         )
-        # The middle of the extents is at y = z = 0 and 50 m up; the corners of the first box are 100 m from it both ways.
+        # The middle of the extents is at y = z = 0 and 50 m up; the corners of the first box are
+        # 100 m from it both ways.
         self.assert_lengths(
             found.error + found.reach, (math.hypot(10, 5), 37, math.hypot(100, 100), 50)
         )
 
     def test_along_and_across_a_diagonal(self):
-        # Along north-east (y + z) and across (y - z), both by the root of 2, the corners of the boxes are from the place
+        # Along north-east (y + z) and across (y - z), both by the root of 2, the corners of the
+        # boxes are from the place
         # (0, 0): (-100, -100) is 200 along, (-100, 100) and (100, -100) are 200 across.
         found = numbers(PAVED, (6378150, 0, 0), math.radians(45))
         self.assert_lengths(
@@ -81,7 +85,8 @@ class TestCorners:
         )
 
     def test_a_cube_that_lies_askew(self):
-        # A cube of 20 m at longitude 45 degrees: east is (y - x) and up is (x + y), each by the root of 2.
+        # A cube of 20 m at longitude 45 degrees: east is (y - x) and up is (x + y), each by the
+        # root of 2.
         half = math.sqrt(0.5)
         place = (6378137 * half, 6378137 * half, 0)
         found = numbers(box_at(place, (20, 20, 20)), place)
@@ -110,7 +115,8 @@ class TestCorners:
 class TestHeld:
     def test_it_is_by_boxes_and_not_by_extents(self):
         epoch = epoch_of(PAVED)
-        # y 10 m lies between the boxes, and z 60 m above the second one, and both are within the extents.
+        # y 10 m lies between the boxes, and z 60 m above the second one, and both are within the
+        # extents.
         for place, wanted in (
             ((6378150, -10, 0), True),
             ((6378150, 10, 0), False),
@@ -176,7 +182,8 @@ class TestWords:
             )
         assert status == 0
         assert re.search(r"height m held +hpl m +vpl m +along m +across m$", out.splitlines()[0])
-        # the farthest corner is 5 m east, 15 m south and 2 m up, and less than 0.1 mm more by the axes' turn: rounded up
+        # the farthest corner is 5 m east, 15 m south and 2 m up, and less than 0.1 mm more by the
+        # axes' turn: rounded up
         assert re.search(r" yes +15\.9 +2\.1 +15\.1 +5\.1$", out.splitlines()[1])
         assert "1 epochs have one and 1 of these a region, which holds it in 1\n" in out
         assert (
@@ -196,7 +203,8 @@ class TestWords:
             ].splitlines()
         assert limited[1].startswith(plain[1] + ",")
         values = dict(zip(limited[0].split(","), limited[1].split(","), strict=True))
-        # (30, 10) is the farthest corner; the middle is 25 m east and its corners are 5 m and 10 m from it
+        # (30, 10) is the farthest corner; the middle is 25 m east and its corners are 5 m and 10 m
+        # from it
         wanted = {
             "held": "0",
             "hpl_m": "31.7",
@@ -264,7 +272,8 @@ class TestWords:
 
 class TestTracks:
     def direction(self, *points, at=0):
-        """The azimuth in degrees at a time in s of a track with one place a second, from y and z at the equator."""
+        """The azimuth in degrees at a time in s of a track with one place a second, from y and z at
+        the equator."""
         track = [(k * 10**12, (6378137, y, z)) for k, (y, z) in enumerate(points)]
         found = places.direction(track, round(at * 10**12))
         return None if found is None else round(math.degrees(found), 3)

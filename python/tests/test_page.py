@@ -171,7 +171,8 @@ class TestParts:
             ["G06", "its ephemeris is out of bounds (field 20)"],
             ["G07", "the search box comes too near to the earth's centre"],
         ]
-        # from longitude and latitude 0: G11 stands overhead, G12 east, G13 north, G14 west, G15 south; 12,000 km beside
+        # from longitude and latitude 0: G11 stands overhead, G12 east, G13 north, G14 west, G15
+        # south; 12,000 km beside
         # and 16,000 - 6378.137 km above
         sky = json.loads(page.detail(empty, None, "empty"))["satellites"]
         high = round(math.degrees(math.atan2(16000 - 6378.137, 12000)), 2)
@@ -180,7 +181,8 @@ class TestParts:
         ]
         assert [row[2] for row in sky[1:]] == [90.0, 0.0, 270.0, 180.0]
         assert [row[3:] for row in sky[:2]] == [[-7.0, 59.0, -7.0, 59.0], [-7.0, 59.0, -6.0, 50.0]]
-        # x from the middle on, y from -5 m on: east from -7.5 to 7.5 m of the middle, north from -10 to 10, up 10 m
+        # x from the middle on, y from -5 m on: east from -7.5 to 7.5 m of the middle, north from
+        # -10 to 10, up 10 m
         outlines = json.loads(page.detail(whole, region.region_of(whole), ""))["outlines"]
         for ring, sides in zip(outlines, ((15, 20), (15, 10), (20, 10))):
             assert len(ring) == 4

@@ -27,7 +27,8 @@ def area(polygon):
 
 
 def shadow(box, across):
-    """The area of a box as seen along a unit vector: each of three faces times how far it is turned."""
+    """The area of a box as seen along a unit vector: each of three faces times how far it is
+    turned."""
     x, y, z = (2 * half for half in region.half_sides(box))
     return y * z * abs(across[0]) + x * z * abs(across[1]) + x * y * abs(across[2])
 
@@ -121,7 +122,8 @@ class TestPicturedZones:
             (x, y) for x in (-45, -5) for y in (-30, 30)
         }
         assert found.ring_of(found.fences[1]) == []
-        # The first box shares the face y = 20 m with a, the second holds a part of it, and in the third epoch there is none.
+        # The first box shares the face y = 20 m with a, the second holds a part of it, and in the
+        # third epoch there is none.
         assert found.title(0) == "a: outside 1, inside 0, open 2, few 1"
         assert found.title(1) == "b: outside 3, inside 0, open 0, few 1"
 

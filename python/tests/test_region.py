@@ -33,7 +33,8 @@ class TestExtents:
         self.assert_widths(box_at(place, (100, 30, 60)), 30, 160 * half, 160 * half)
 
     def test_they_are_not_those_of_the_hull(self):
-        # two boxes of 10 m, 100 m apart along east at longitude 45 degrees: up is 10 * sqrt(2), not that of the hull
+        # two boxes of 10 m, 100 m apart along east at longitude 45 degrees: up is 10 * sqrt(2), not
+        # that of the hull
         half = math.sqrt(0.5)
         a, shift = 6378137 * half, 100 * half
         ends = [round(v * 1e6) for v in (a - shift - 5, a - 5, -5, a + 5, a + shift + 5, 5)]

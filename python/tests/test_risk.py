@@ -21,7 +21,8 @@ def said(*words):
 
 
 def by_outcomes(chances, outliers):
-    """The probability that more than so many events come, from all outcomes of independent events."""
+    """The probability that more than so many events come, from all outcomes of independent
+    events."""
     total = Fraction(0)
     for outcome in itertools.product((True, False), repeat=len(chances)):
         if sum(outcome) > outliers:
@@ -128,7 +129,8 @@ class TestAnswers:
             by_log, other = said("--log", path, "--p", "1/10"), said(
                 "--log", path, "--p", "1/10", "--q", "0"
             )
-        # five of one in ten, more than 1: 1 - 0.9^5 - 5 * 0.1 * 0.9^4 = 0.08146, and twice that is 0.16292
+        # five of one in ten, more than 1: 1 - 0.9^5 - 5 * 0.1 * 0.9^4 = 0.08146, and twice that is
+        # 0.16292
         assert [line.split() for line in by_log[1:3]] == [
             ["1", "4", "1", "5.23e-2", "few"],
             ["2", "5", "1", "8.15e-2"],

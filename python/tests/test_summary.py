@@ -247,7 +247,8 @@ class TestMarks:
             [tuple(map(float, point.split(","))) for point in ring.text.split()]
             for ring in marks[0].iter("{http://www.opengis.net/kml/2.2}coordinates")
         ]
-        # 100 m east and north at the equator are 1 / 6378137 and 1 / 6335439 rad a metre; the boxes are 0 to 100 m up
+        # 100 m east and north at the equator are 1 / 6378137 and 1 / 6335439 rad a metre; the boxes
+        # are 0 to 100 m up
         assert max(lon for lon, *_ in rings[0]) == pytest.approx(
             math.degrees(100 / 6378137), rel=0, abs=5e-8
         )
@@ -267,7 +268,8 @@ class TestMarks:
         ]
 
     def test_utc_at_a_leap_second(self):
-        # 2016-12-31 23:59:59 UTC was 17 s behind GPS time; 2017-01-01 00:00:00 UTC is 18 s behind it.
+        # 2016-12-31 23:59:59 UTC was 17 s behind GPS time; 2017-01-01 00:00:00 UTC is 18 s behind
+        # it.
         for gps, utc in (
             ("2017-01-01 00:00:16", "2016-12-31T23:59:59"),
             ("2017-01-01 00:00:18", "2017-01-01T00:00:00"),

@@ -39,7 +39,8 @@ class TestSuspects:
         assert suspects.clock_span(row, Box(*box)) == (-1500000, 1500000)
 
     def test_what_is_surely_declared_names_no_satellite(self):
-        # The five satellites all keep the widest of their bounds, whatever less is declared at other points.
+        # The five satellites all keep the widest of their bounds, whatever less is declared at
+        # other points.
         right = FAULTY.replace(str(2 * 10**13 + 10**9), str(2 * 10**13)).replace(
             "500000\n", "500000 0 0\n"
         )
@@ -52,7 +53,8 @@ class TestSuspects:
         ]
 
     def test_the_rows_in_use_tell(self):
-        # By the rows of the root, whose errors are 2 km, each satellite can keep its bounds; by renewed rows G05 can't.
+        # By the rows of the root, whose errors are 2 km, each satellite can keep its bounds; by
+        # renewed rows G05 can't.
         wide = FAULTY.replace("-500000 500000", "-2000000000 2000000000")
         ends = "edge 0 -1500000 1500000\ndone 0\n"
         box = "renew -1000000 -1000000 -1000000 1000000 1000000 1000000\n"

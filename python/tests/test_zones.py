@@ -32,7 +32,8 @@ PLACES = RECORDED / "cres_2008.places"
 NONE = "there is no (Polygon|LineString) in it, or not all of its places are numbers"
 THREE = "a: an area has three corners or more"
 AREA, LANE = ("--area", "800,1150"), ("--lane", "120,-160,160")
-# A file's name, its text, the option that reads it with the fields behind it, and the line that says what is wrong.
+# A file's name, its text, the option that reads it with the fields behind it, and the line that
+# says what is wrong.
 NO_SHAPES = (
     ("null-geometry.json", '{"type": "Feature", "geometry": null}', *AREA, NONE),
     ("empty-object.json", "{}", *AREA, NONE),
@@ -134,7 +135,8 @@ def drawn_place(draw):
 
 
 def around(draw, place):
-    """A point within the radius and the heights of a place, or at their edge, in the plane below it."""
+    """A point within the radius and the heights of a place, or at their edge, in the plane below
+    it."""
     latitude, longitude, height, radius, up = place
     ground = shapes.Ground(math.radians(latitude), math.radians(longitude))
     far, turn = radius * draw.choice((1, math.sqrt(draw.random()))), draw.uniform(0, 2 * math.pi)
@@ -426,7 +428,8 @@ class TestFiles:
 
 
 def drawn_lines(draw, name, boxes):
-    """The lines of a zone, a prism or a direction that is drawn round some boxes; faces that just touch one aren't seldom."""
+    """The lines of a zone, a prism or a direction that is drawn round some boxes; faces that just
+    touch one aren't seldom."""
     hull = hull_of(boxes)
     kind = draw.choice(("zone", "zone", "prism", "prism", "reach"))
     if kind == "zone":

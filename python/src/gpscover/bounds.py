@@ -14,27 +14,20 @@ is seen below --mask, where the mapping doesn't hold, is opened to 1 km, so that
 
 A bound in metres at the elevation E is the sum of
   troposphere  zenith delay times m(E) = 1.001 / sqrt(0.002001 + sin(E)^2), give or take a part of
-  it for the mapping
-               (Black and Eisner, 1984; the mapping of RTCA DO-229 above 4 degrees)
+               it for the mapping (Black and Eisner, 1984; the mapping of RTCA DO-229 above 4
+               degrees)
   ionosphere   single mode: zenith delay on L1 times the obliquity of a thin shell at 350 km, as in
-  RTCA DO-229;
-               dual mode: what the combination leaves of it
+               RTCA DO-229; dual mode: what the combination leaves of it
   receiver     noise and multipath of a code; in dual mode 4.09 times that, since P = 2.546 P1 -
-  1.546 P2 (for Galileo
-               on E1 and E5a 3.53 times would do, on E1 and E5b 3.85); it grows from the elevation --rise down to
-               --horizon times as much at
-               the horizon
+               1.546 P2 (for Galileo on E1 and E5a 3.53 times would do, on E1 and E5b 3.85); it
+               grows from the elevation --rise down to --horizon times as much at the horizon
   orbit_clock  the error of the broadcast orbit and clock
 The parts that don't depend on the elevation are printed in [bounds], the rest in [satellite]. With
---zenith the
-troposphere isn't mapped here: its delay at the zenith, with the part for the mapping, is printed in
-[bounds] as
-`zenith`, and gpscover maps it by the elevation at each point of the search box and at each epoch's
-time. With --vertical,
-in single mode, so is the ionosphere's, as `vertical`. With both a satellite's own bound is what
-noise adds alone. Each number
-is an option, and is the engineer's own declaration: the region holds the receiver only while they
-hold.
+--zenith the troposphere isn't mapped here: its delay at the zenith, with the part for the mapping,
+is printed in [bounds] as `zenith`, and gpscover maps it by the elevation at each point of the
+search box and at each epoch's time. With --vertical, in single mode, so is the ionosphere's, as
+`vertical`. With both a satellite's own bound is what noise adds alone. Each number is an option,
+and is the engineer's own declaration: the region holds the receiver only while they hold.
 
 A satellite rises and sets, so one table for a long file declares much for each. With --every there
 is one for each stretch of so many seconds: FOLDER gets part01.toml and so on, which are SETTINGS up

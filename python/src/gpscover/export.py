@@ -8,8 +8,8 @@ usage: gpslog export LOG OUT
   .gpkg               the same as a GeoPackage, where geopandas is installed
   .parquet            the frame of the epochs, where pandas and pyarrow are installed
 
-Exit status: 0; 1 where a file can't be read or written, LOG is no whole log, or a library isn't there;
-2 for a wrong command line.
+Exit status: 0; 1 where a file can't be read or written, LOG is no whole log, or a library isn't
+there; 2 for a wrong command line.
 """
 
 from __future__ import annotations

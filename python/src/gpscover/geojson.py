@@ -1,8 +1,8 @@
 """Regions for a map, in GeoJSON (RFC 7946): a feature for each epoch.
 
-An epoch with a region is its outline as seen from above, counterclockwise, in longitude and latitude
-of WGS 84. The properties have the rest: times, the mark, lengths and heights in metres. An outline
-that crosses the meridian of 180 degrees isn't cut there.
+An epoch with a region is its outline as seen from above, counterclockwise, in longitude and
+latitude of WGS 84. The properties have the rest: times, the mark, lengths and heights in metres. An
+outline that crosses the meridian of 180 degrees isn't cut there.
 """
 
 from __future__ import annotations

@@ -2,9 +2,9 @@
 
 usage: gpslog known LOG FILE [--azimuth A | --along FILE] [--limit H V] [--strict]
 
-It prints the lines that `gpslog summary LOG --places FILE` has behind its table, and the warnings on
-these places. FILE has a place on a line, as gpscover.places says. All lengths are of the declared
-bounds, not of a probability.
+It prints the lines that `gpslog summary LOG --places FILE` has behind its table, and the warnings
+on these places. FILE has a place on a line, as gpscover.places says. All lengths are of the
+declared bounds, not of a probability.
 
 Exit status: 0; 1 where a file can't be read, or LOG is no whole log, or shares no time with the
 places; 2 for a wrong command line; 3 where --strict is given and there is a warning.

@@ -287,17 +287,17 @@ def whole(word: str) -> int:
 
 def wholes(words: list[str], count: int) -> tuple[int, ...]:
     """So many whole numbers of a log."""
-    if len(words) != count:
+    if len(words) != count or max(map(len, words)) > LONGEST:
         raise ValueError
-    return tuple(map(whole, words))
+    return tuple(map(int, words))
 
 
 def box_of(ends: tuple[int, ...] | list[int]) -> Box:
     """A box of its low and its high corner. None has a low end above the high one."""
-    box = Box._make(ends)
-    if box.x_low > box.x_high or box.y_low > box.y_high or box.z_low > box.z_high:
+    x_low, y_low, z_low, x_high, y_high, z_high = ends
+    if x_low > x_high or y_low > y_high or z_low > z_high:
         raise ValueError
-    return box
+    return Box(x_low, y_low, z_low, x_high, y_high, z_high)
 
 
 def satellite_of(word: str) -> str:
@@ -309,7 +309,7 @@ def satellite_of(word: str) -> str:
 
 def row_of(words: list[str]) -> Row:
     """The row of a `sat` line. On one without a last pair the error is the same at every point."""
-    ends = [whole(word) for word in words[2:]]
+    ends = wholes(words[2:], len(words) - 2)
     pairs = [Interval(*pair) for pair in zip(ends[::2], ends[1::2], strict=True)]
     if words[0] != "sat" or len(pairs) not in (5, 6):
         raise ValueError
@@ -489,7 +489,7 @@ class Numbered:
     def __next__(self) -> str:
         line = next(self.file)
         self.count += 1
-        if not line.endswith("\n"):
+        if line[-1] != "\n":
             raise EOFError
         return line[:-1]
 

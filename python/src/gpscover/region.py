@@ -14,6 +14,7 @@ from gpscover.log import UM_PER_M, Box, Epoch
 
 Extent = tuple[float, float]
 
+TWICE_UM = 2 * UM_PER_M  # the um of two metres
 FACES = ("-x", "-y", "-z", "+x", "+y", "+z")
 
 
@@ -62,8 +63,8 @@ def upward(value: float) -> float:
 
 def half_sides(box: Box) -> Vector:
     """Half of each side of a box, in m."""
-    x, y, z = ((box[k + 3] - box[k]) / (2 * UM_PER_M) for k in range(3))
-    return x, y, z
+    a, b, c, d, e, f = box
+    return (d - a) / TWICE_UM, (e - b) / TWICE_UM, (f - c) / TWICE_UM
 
 
 def offset_of(box: Box, origin: Sequence[int]) -> Vector:
@@ -71,8 +72,13 @@ def offset_of(box: Box, origin: Sequence[int]) -> Vector:
 
     The difference is taken in whole numbers.
     """
-    x, y, z = ((box[k] + box[k + 3] - 2 * origin[k]) / (2 * UM_PER_M) for k in range(3))
-    return x, y, z
+    a, b, c, d, e, f = box
+    x, y, z = origin
+    return (
+        (a + d - 2 * x) / TWICE_UM,
+        (b + e - 2 * y) / TWICE_UM,
+        (c + f - 2 * z) / TWICE_UM,
+    )
 
 
 def extent_along(

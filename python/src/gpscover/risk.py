@@ -3,8 +3,7 @@ fractions.
 
 usage: gpslog risk --p P --q Q [--satellites N | N-M]       the probability that more than Q do
        gpslog risk --p P --risk RISK [--satellites ..]      the least q for which it is at most RISK
-       gpslog risk --q Q --risk RISK [--satellites ..]      the greatest p for which it is at most
-       RISK
+       gpslog risk --q Q --risk RISK [--satellites ..]      the greatest p with at most RISK
        gpslog risk --p P [--satellites ..]                  the probability for q from 0 to 4
        gpslog risk --log LOG (--p P | --risk RISK | both, or either with --q Q)
 

@@ -4,15 +4,14 @@ and areas of a map.
 usage: gpslog zones --for outside|inside [--place P].. [--reported P].. [--lane L].. [--area A]..
                     [--reach R].. > ZONES
 
-  --place NAME,LAT,LON,HEIGHT,RADIUS,UP   the points within RADIUS along the ground of a place and
-  within UP above or below
-  --reported NAME,FILE,LOG,RADIUS,UP      the same of each epoch of a log that has a place in a list
-  of places: NAME-INDEX
+  --place NAME,LAT,LON,HEIGHT,RADIUS,UP   the points within RADIUS along the ground of a place
+                                          and within UP above or below
+  --reported NAME,FILE,LOG,RADIUS,UP      the same of each epoch of a log that has a place in a
+                                          list of places: NAME-INDEX
   --lane NAME,FILE,WIDTH,LOW,HIGH         a lane of this width, from LOW to HIGH above its line;
-  NAME-1, NAME-2, .. by leg
+                                          NAME-1, NAME-2, .. by leg
   --area NAME,FILE,LOW,HIGH               a polygon between two heights
-  --reach NAME,LAT,LON                    directions NAME-e, NAME-n and NAME-u: east, north and up
-  there
+  --reach NAME,LAT,LON                    directions NAME-e, NAME-n, NAME-u: east, north and up
 
 Latitudes and longitudes are in degrees, lengths and heights in metres, heights above the ellipsoid
 of WGS 84. FILE is KML (its first LineString or Polygon), GeoJSON (the same) or lines `LAT LON

@@ -10,7 +10,7 @@ metres, and the latitude, longitude (degrees) and height above the ellipsoid (me
 A mark behind it says
   few      too few usable satellites, so the epoch isn't paved
   empty    no position fits: more satellites than allowed broke their bounds, or the receiver was
-  outside the box
+           outside the box
   lost     the same in a log of `track`, which ends there
   reaches  a kept box lies on the named faces of the search box, so the region may go on outside
 Epochs with a mark are warned of at the end. A log is taken for one of `track` where the search
