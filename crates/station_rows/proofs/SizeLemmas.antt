@@ -14,6 +14,7 @@ use Rattle.gnss_model.specs.Turn.{Turn}
 use Rattle.gnss_model.specs.declared.elements.Elements.{Elements}
 use Rattle.gnss_model.specs.declared.systems.System.{System}
 use Rattle.gnss_model.specs.declared.systems.System.TheVariants.{Gps, Galileo}
+use Rattle.gnss_model.specs.declared.systems.Message.TheVariants.{Fnav, Inav}
 use Rattle.grid_model.specs.Amounts.{square}
 use Rattle.grid_model.specs.Angles.{unit}
 use Rattle.grid_model.specs.Intervals.{Between, Close}
@@ -49,11 +50,17 @@ range_within Gps first (Some second) pr h (p, q, pv, qv, near) =
     let below : (pr *ℤ pos 2329) ≤ℤ (((pos 5929 *ℤ p) -ℤ (pos 3600 *ℤ q)) +ℤ pos 2329) = near.below in
     let above : ((pos 5929 *ℤ p) -ℤ (pos 3600 *ℤ q)) ≤ℤ (pr *ℤ pos 2329 +ℤ pos 2329) = near.above in
     record { from = omega (arith, ints, from, above, pv.from, qv.to); to = omega (arith, ints, to, below, pv.to, qv.from) }
-range_within Galileo first (Some second) pr h (p, q, pv, qv, near) =
+range_within (Galileo Fnav) first (Some second) pr h (p, q, pv, qv, near) =
     let from : pos (10491 * 15000000000000) ≤ℤ ((pos 23716 *ℤ first.lo) -ℤ (pos 13225 *ℤ second.hi)) = h.2.from in
     let to : ((pos 23716 *ℤ first.hi) -ℤ (pos 13225 *ℤ second.lo)) ≤ℤ pos (10491 * 40000000000000) = h.2.to in
     let below : (pr *ℤ pos 10491) ≤ℤ (((pos 23716 *ℤ p) -ℤ (pos 13225 *ℤ q)) +ℤ pos 10491) = near.below in
     let above : ((pos 23716 *ℤ p) -ℤ (pos 13225 *ℤ q)) ≤ℤ (pr *ℤ pos 10491 +ℤ pos 10491) = near.above in
+    record { from = omega (arith, ints, from, above, pv.from, qv.to); to = omega (arith, ints, to, below, pv.to, qv.from) }
+range_within (Galileo Inav) first (Some second) pr h (p, q, pv, qv, near) =
+    let from : pos (9792 * 15000000000000) ≤ℤ ((pos 23716 *ℤ first.lo) -ℤ (pos 13924 *ℤ second.hi)) = h.2.from in
+    let to : ((pos 23716 *ℤ first.hi) -ℤ (pos 13924 *ℤ second.lo)) ≤ℤ pos (9792 * 40000000000000) = h.2.to in
+    let below : (pr *ℤ pos 9792) ≤ℤ (((pos 23716 *ℤ p) -ℤ (pos 13924 *ℤ q)) +ℤ pos 9792) = near.below in
+    let above : ((pos 23716 *ℤ p) -ℤ (pos 13924 *ℤ q)) ≤ℤ (pr *ℤ pos 9792 +ℤ pos 9792) = near.above in
     record { from = omega (arith, ints, from, above, pv.from, qv.to); to = omega (arith, ints, to, below, pv.to, qv.from) }
 
 -- ---- the clock
@@ -84,7 +91,7 @@ delay_within m n false offset delay f g = record { low = omega (arith, ints, f.l
 
 relativity_within : (system : System) → IsWithin relativity (pos (relativity_of system))
 relativity_within Gps = record { low = omega (arith, ints); high = omega (arith, ints) }
-relativity_within Galileo = record { low = omega (arith, ints); high = omega (arith, ints) }
+relativity_within (Galileo message) = record { low = omega (arith, ints); high = omega (arith, ints) }
 
 relative_within : (n : ℕ) (p v : ℤ) → n ≤ 5 * 10 ^ 9 * 10 ^ 47 → IsWithin n p
     → Near (neg_ℤ p) (pos (10 ^ 47)) v → IsWithin (5 * 10 ^ 9 + 1) v

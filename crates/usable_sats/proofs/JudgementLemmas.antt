@@ -67,7 +67,7 @@ module _ (a : Sighting) where
 
 -- ---- one judgement
 
-have_there : (signal : Signal) (seen : SatObs) (c : Codes) → HaveValue signal seen c
+pub have_there : (signal : Signal) (seen : SatObs) (c : Codes) → HaveValue signal seen c
     → AreThere signal seen
 have_there (Single code) seen c v = (v.0, v.1)
 have_there (Dual code other) seen c v = ((v.0.0, v.0.1), (v.1.0, v.1.2))

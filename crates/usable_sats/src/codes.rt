@@ -1,15 +1,17 @@
 //! The codes of a satellite.
 
-ghost use Rattle.std.specs.Prelude.{ℕ, ◌*◌, ◌≡◌, ◌↔◌, pos, List, IsTrue, IsNone, IfSome};
+ghost use Rattle.std.specs.Prelude.{ℕ, ◌*◌, ◌≡◌, ◌↔◌, pos, List, IsTrue, IsNone, IfNone, IfSome};
 ghost use Rattle.exact_decimal.specs.declared.unit.Unit.TheVariants.{Length};
 ghost use Rattle.rinex_nav.specs.ElementsOf.{IsRounded};
+ghost use Rattle.gnss_model.specs.Pseudorange.{Codes};
 ghost use Rattle.gnss_model.specs.Systems.{squares_apart};
 ghost use Rattle.gnss_model.specs.declared.satellites.Signal.TheVariants.{Single, Dual};
 ghost use Rattle.grid_model.specs.declared.spans.Wide.{Wide};
 ghost use Rattle.gnss_model.specs.declared.systems.System.{System};
 ghost use Rattle.usable_sats.specs.Answers.{IsReading};
-ghost use Rattle.usable_sats.specs.Usability.{IsPlausible, IsCombinationPlausible, least_range};
-ghost use Rattle.usable_sats.specs.Usability.{greatest_range};
+ghost use Rattle.usable_sats.specs.Measured.{codes_of};
+ghost use Rattle.usable_sats.specs.Usability.{HaveValue, IsPlausible, IsCombinationPlausible};
+ghost use Rattle.usable_sats.specs.Usability.{ArePlausible, least_range, greatest_range};
 
 use exact_decimal::{Decimal, Unit, to_unit_between};
 use gnss_model::{Message, Signal, System};
@@ -45,6 +47,20 @@ pub(crate) fn read_codes(seen: &SatObs, signal: &Signal, system: System) -> Read
     match signal {
         Signal::Single { .. } => read_single(seen),
         Signal::Dual { .. } => read_dual(seen, system),
+    }
+}
+
+/// The wanted codes of the satellite, none where one of them is missing or out of range.
+pub fn codes_in_range(seen: &SatObs, signal: &Signal, system: System) -> Option<Measured>
+    ensures values { IfSome result (λ codes. HaveValue signal.now seen.now (codes_of codes)) }
+    ensures plausible { IfSome result (λ codes. ArePlausible system (codes_of codes)) }
+    ensures none { IfNone result ((codes : Codes) → HaveValue signal.now seen.now codes
+        → ArePlausible system codes → ⊥) }
+{
+    match read_codes(seen, signal, system) {
+        Reading::Missing => None,
+        Reading::OutOfRange => None,
+        Reading::Within(codes) => Some(codes),
     }
 }
 

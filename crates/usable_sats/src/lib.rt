@@ -8,5 +8,5 @@ mod codes;
 mod fresh;
 mod judging;
 
-pub use codes::Measured;
+pub use codes::{Measured, codes_in_range};
 pub use judging::{Judgement, judge_satellite, use_of};
