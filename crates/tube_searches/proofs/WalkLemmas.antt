@@ -1,5 +1,5 @@
 -- What the next search of a tube is says what its walk makes.
-use Rattle.std.proofs.Common.{◌≡◌, true, List, [], refl, sym, ap, subst, ◌∙◌, Option, None, Some, Result, Ok, Err, option_map}
+use Rattle.std.proofs.Common.{◌≡◌, true, [], refl, sym, ap, subst, ◌∙◌, Option, None, Some, Result, Ok, Err, option_map}
 use Rattle.std.specs.Prelude.{ℤ, is_some, IfOk, MatchOption, IfSome}
 use Rattle.epoch_selection.specs.Walks.{MakesNone, IsFirst}
 use Rattle.grid_model.specs.Boxes.{GridBox, grid_box}
