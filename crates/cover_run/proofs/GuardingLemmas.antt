@@ -28,7 +28,7 @@ use Rattle.sat_model.specs.declared.rows.Row.{Row}
 use Rattle.sat_model.specs.declared.rules.Rules.{Rules}
 use Rattle.sat_rows.specs.Fitting.{FitsEpoch}
 use Rattle.sat_rows.specs.Meanings.{Meaning}
-use Rattle.tube_check.proofs.TubeLemmas.{body_folds}
+use Rattle.paving_log_check.proofs.OnWayLemmas.{body_folds}
 use Rattle.zone_guard.proofs.AnswerLemmas.{none_kept}
 use Rattle.zone_guard.proofs.KeptLemmas.{holding, in_prism, in_zone, none_holds, reached}
 use Rattle.zone_guard.specs.EpochsFound.{AreEpochsFound, AreFindings, IsFoundIn}

@@ -9,7 +9,7 @@ use Rattle.paving_log.specs.Values.{log_value}
 use Rattle.paving_log_check.specs.Answers.{IfYes}
 use Rattle.paving_log_check.specs.Checked.{IsAccepted}
 use Rattle.paving_log_check.specs.declared.verdict.Verdict.{Verdict}
-use Rattle.tube_check.proofs.FoundLemmas.{found_by}
+use Rattle.tube_searches.proofs.FoundLemmas.{found_by}
 use Rattle.tube_searches.specs.Tubes.{tube_searches}
 use Rattle.cover_run.proofs.TellingLemmas.{yes_as}
 use Rattle.cover_run.specs.Rechecking.{AcceptsTrack}

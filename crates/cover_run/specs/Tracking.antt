@@ -27,7 +27,7 @@ use Rattle.paving_log_check.specs.Admissible.{Admits}
 use Rattle.paving_log_check.specs.FileCover.{FileCover}
 use Rattle.paving_log_check.specs.OwnLines.{OwnLines, AreOwn}
 use Rattle.sat_model.specs.Logs.{Block, LogValue, is_few}
-use Rattle.tube_check.specs.Found.{IsPath, PathFits, IsFoundIn}
+use Rattle.tube_searches.specs.Found.{IsPath, PathFits, IsFoundIn}
 use Rattle.tube_rows.specs.TubeLeft.{TubeLeft, left_in, source_of}
 use Rattle.tube_searches.specs.Tubes.{TubeValue, tube_searches}
 use Rattle.cover_run.specs.Chosen.{chosen_in}
@@ -113,8 +113,8 @@ tube_of chosen i search speed =
     record { epochs = epochs_of chosen i; search = search; speed = speed; before = None }
 
 module _ (chosen : Selection) (i : Inputs) where
-  -- By these searches of a log each trajectory of the declared speed that fits in each paved epoch
-  -- is found in each of its epochs.
+  -- By these searches of a log each trajectory of the declared speed over the first epochs, however
+  -- many, that fits in each paved one of them is found in each of them.
   abbrev pub FindsReceiver : GridBox → ℕ → LogValue → List Search → Type 0
   FindsReceiver search speed log searches =
       (path : List Stay) → IsPath speed search (epochs_of chosen i) path

@@ -36,4 +36,4 @@ pub use command_words::{stated_words_are_taken, taken_words_are_a_command};
 pub use input_files::{Limits, Status};
 pub use paving_log_check::{Fault, Verdict, judge};
 pub use top::run;
-pub use tube_check::check_tube;
+pub use tube_searches::check_tube;

@@ -26,8 +26,7 @@ use grid_model::NoMemory;
 use input_files::{Limits, Status};
 use outer_io::{Shelf, Sink};
 use std::alloc::Global;
-use tube_check::check_tube;
-use tube_searches::Tube;
+use tube_searches::{Tube, check_tube};
 
 /// The verdict on the log against these epochs of the files, each over the root that the one before
 /// leaves.

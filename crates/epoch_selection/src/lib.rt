@@ -4,7 +4,9 @@
 mod laws;
 mod searches;
 mod selection;
+mod walk;
 
 pub use laws::kept_are_selected;
 pub use searches::Searches;
 pub use selection::{FIRST_EPOCH, LAST_EPOCH, Selection};
+pub use walk::Walk;

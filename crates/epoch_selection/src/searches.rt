@@ -4,6 +4,7 @@ ghost use Rattle.grid_model.specs.Boxes.{grid_box};
 ghost use Rattle.grid_model.specs.SearchBoxes.{IsSearchBox};
 
 use crate::selection::Selection;
+use crate::walk::Walk;
 use grid_model::Box3;
 use rinex_obs::ObsEpoch;
 
@@ -35,4 +36,29 @@ impl<'a> Searches<'a> {
             None => None,
         }
     }
+}
+
+/// A receiver that stands still: the walk isn't told anything.
+impl<'a> Walk<'a> for Searches<'a> {
+    ghost use Rattle.std.specs.Prelude.{None};
+    ghost use Rattle.epoch_selection.specs.Searches.{searches_left};
+
+    ghost searches = { λ walk blocks. searches_left walk };
+
+    ghost behind = { λ walk tag kept blocks. searches_left walk };
+
+    ghost keeps = { λ root block. None };
+
+    ghost may_search = { λ walk root. Unit {0} };
+
+    ghost may_keep = { λ walk kept. Unit {0} };
+
+    ghost ready = { λ walk. Unit {0} };
+
+    fn next(&mut self) -> Option<(&'a ObsEpoch, Box3)> {
+        let epoch = Searches::next(self)?;
+        Some((epoch, self.root))
+    }
+
+    fn go_on(&mut self, _epoch: &ObsEpoch, _kept: Option<Box3>) {}
 }

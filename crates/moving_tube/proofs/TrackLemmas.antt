@@ -1,4 +1,4 @@
--- A receiver that fits in each paved epoch, and comes no farther than its reach, is found in each epoch.
+-- A receiver that fits in each paved one of the first epochs, and comes no farther than its reach, is found in each of them.
 use Rattle.std.proofs.Common.{◌≡◌, ℕ, true, List, [], ◌∷◌, sym, subst, Option, None, Some}
 use Rattle.std.specs.Prelude.{ℤ}
 use Rattle.std.specs.List.{AllByRecursion}
@@ -73,14 +73,14 @@ module _ (speed : ℕ) (search : GridBox) where
       → AreFound visits path
   found_from before left [] tags path held rooted timed roots goes kept = tt
   found_from before left (v ∷ more) [] path held rooted timed roots goes kept = absurd timed
-  found_from before left (v ∷ more) (tag ∷ tags) [] held rooted timed roots goes kept = absurd kept
+  found_from before left (v ∷ more) (tag ∷ tags) [] held rooted timed roots goes kept = tt
   found_from before left (v ∷ more) (tag ∷ tags) (stay ∷ path) held rooted timed roots goes kept =
       let inside = in_root speed search before left v.tag v.root stay.at held goes.0 (subst (λ (t : ℤ). IsReached speed left t stay.at) (sym timed.0) goes.1) rooted.0 in
       let found = found_with v.root v.block.body stay inside kept.0 in
       let held = held_with v.root v.block.body stay roots.0 found in
       (found, found_from (behind v) (Some (record { tag = tag; at = stay.at })) more tags path (timed.0, held) rooted.1 timed.1 roots.1 goes.2 kept.1)
 
-  -- A trajectory that each paved epoch keeps, where it is in its root, is found in each epoch.
+  -- A trajectory that each paved one of its epochs keeps, where it is in its root, is found in each of them.
   pub track_found : (visits : List Visit) (tags : List ℤ) (path : List Stay)
       → AreRooted speed search None visits → AreTimed visits tags
       → HaveRoots visits → IsTrajectory speed search tags path → AreKept visits path

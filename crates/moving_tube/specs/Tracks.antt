@@ -25,12 +25,12 @@ abbrev pub IsReached : ℕ → Option Left → ℤ → Pos → Type 0
 IsReached speed None tag p = Unit {0}
 IsReached speed (Some left) tag p = IsWithinReach (reach_of speed left.tag tag) left.at p
 
--- From there on one stay in the search box for each of these times, each within reach of the one
--- before.
+-- From there on one stay in the search box for each of the first of these times, as many as there
+-- are stays, each within reach of the one before.
 abbrev pub GoesOn : ℕ → GridBox → Option Left → List ℤ → List Stay → Type 0
 GoesOn speed search left [] [] = Unit {0}
 GoesOn speed search left [] (stay ∷ path) = ⊥
-GoesOn speed search left (tag ∷ tags) [] = ⊥
+GoesOn speed search left (tag ∷ tags) [] = Unit {0}
 GoesOn speed search left (tag ∷ tags) (stay ∷ path) =
     (box_holds search stay.at ≡ true) × IsReached speed left tag stay.at
     × GoesOn speed search (Some (record { tag = tag; at = stay.at })) tags path
@@ -66,10 +66,10 @@ IsKeptWith root None stay = Unit {0}
 IsKeptWith root (Some body) stay = box_holds root stay.at ≡ true
     → SomeKeeps stay.at stay.offset (pieces root (steps_in body.events))
 
--- so it is in each of these epochs, of which there is a stay
+-- so it is in each of these epochs of which there is a stay
 abbrev pub AreKept : List Visit → List Stay → Type 0
 AreKept [] path = Unit {0}
-AreKept (v ∷ more) [] = ⊥
+AreKept (v ∷ more) [] = Unit {0}
 AreKept (v ∷ more) (stay ∷ path) = IsKeptWith v.root v.block.body stay × AreKept more path
 
 -- ---- where a receiver is found
@@ -80,8 +80,8 @@ IsFoundWith root None stay = box_holds root stay.at ≡ true
 IsFoundWith root (Some body) stay =
     SomeKeeps stay.at stay.offset (pieces root (steps_in body.events))
 
--- in each of these epochs, and maybe in more
+-- in each of these epochs of which there is a stay, and maybe in more
 abbrev pub AreFound : List Visit → List Stay → Type 0
 AreFound [] path = Unit {0}
-AreFound (v ∷ more) [] = ⊥
+AreFound (v ∷ more) [] = Unit {0}
 AreFound (v ∷ more) (stay ∷ path) = IsFoundWith v.root v.block.body stay × AreFound more path

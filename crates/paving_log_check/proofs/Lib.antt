@@ -13,5 +13,7 @@ pub mod CheckLemmas
 pub mod RenewalLemmas
 pub mod WalkLemmas
 pub mod WayLemmas
+pub mod LastLineLemmas
+pub mod OnWayLemmas
 pub mod AnswerLemmas
 pub mod CountLemmas

@@ -16,12 +16,11 @@ mod rows_test;
 mod sat_lines;
 mod steps;
 mod verdict;
+mod walks;
 
-pub use blocks::kept_boxes;
-pub use epochs::check_epoch;
-pub use faults::{RULES_DIFFER, plain_fault};
-pub use files::{are_same_rules, check_with, first_of, is_of, lines_of};
+pub use files::check_with;
 pub use folds::judged_folds;
 pub use gps::{check, check_by};
 pub use logs::judge;
 pub use verdict::{Fault, Verdict};
+pub use walks::LogWalk;

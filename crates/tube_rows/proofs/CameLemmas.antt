@@ -35,8 +35,8 @@ use Rattle.grid_model.specs.declared.boxes.Pos.{Pos}
 use Rattle.sat_model.specs.declared.rows.SatEntry.{SatEntry}
 use Rattle.sat_model.specs.declared.rules.Rules.{Rules}
 use Rattle.sat_rows.specs.Meanings.{Meaning, IsSound}
-use Rattle.tube_check.proofs.FoundLemmas.{found_by}
-use Rattle.tube_check.specs.Found.{IsPath, PathFits, IsFoundIn}
+use Rattle.tube_searches.proofs.FoundLemmas.{found_by}
+use Rattle.tube_searches.specs.Found.{IsPath, PathFits, IsFoundIn}
 use Rattle.tube_searches.specs.Tubes.{TubeValue, tube_searches, with_kept, IsInside, IsOver, IsTaken}
 use Rattle.tube_searches.proofs.TubeLemmas.{over_searches, taken_last, taken_searches}
 use Rattle.tube_rows.specs.TubeLeft.{Last, TubeLeft, told, tube_with, IsEnded, GivesNext, source_of}

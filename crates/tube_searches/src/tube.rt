@@ -34,7 +34,7 @@ impl<'a> Tube<'a> {
     ghost use Rattle.moving_tube.specs.Hulls.{HullLies};
     ghost use Rattle.moving_tube.specs.Roots.{root_for};
     ghost use Rattle.grid_model.specs.Boxes.{grid_box};
-    ghost use Rattle.tube_searches.specs.Tubes.{tube_value, IsInside, IsOver, IsTaken, with_kept};
+    ghost use Rattle.tube_searches.specs.Tubes.{tube_value, IsInside, IsOver, IsTaken};
 
     /// The root of the next epoch, at this time; none where the receiver is lost.
     fn root_for(&self, tag: i128) -> Option<Box3>
@@ -66,16 +66,5 @@ impl<'a> Tube<'a> {
         let root = self.root_for(epoch.tag)?;
         self.searches = searches;
         Some((epoch, root))
-    }
-
-    /// Goes on from what this epoch kept.
-    pub fn go_on(&mut self, epoch: &ObsEpoch, part: Option<Box3>)
-        ensures { tube_value self.new
-            ≡ with_kept (tube_value self.old) epoch.now.tag (box_option part) }
-    {
-        self.before = Some(Kept {
-            tag: epoch.tag,
-            part,
-        });
     }
 }

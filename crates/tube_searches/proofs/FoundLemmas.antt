@@ -18,7 +18,7 @@ use Rattle.gnss_model.specs.declared.delays.Delays.{Delays}
 use Rattle.sat_rows.specs.Fitting.{FitsEpoch}
 use Rattle.sat_rows.specs.Meanings.{Meaning}
 use Rattle.tube_searches.specs.Tubes.{TubeValue, from_root, searches_from, tube_searches}
-use Rattle.tube_check.specs.Found.{visits_of, IsPath, StayFits, PathFits, IsFoundIn}
+use Rattle.tube_searches.specs.Found.{visits_of, IsPath, StayFits, PathFits, IsFoundIn}
 
 -- ---- the visits of a tube's searches
 
@@ -97,7 +97,7 @@ module _ (m : Meaning) (q : ℕ) where
       → AreKept (visits_of searches blocks) path
   are_kept [] blocks path cover fits = tt
   are_kept (s ∷ rest) [] path cover fits = tt
-  are_kept (s ∷ rest) (block ∷ more) [] cover fits = absurd fits
+  are_kept (s ∷ rest) (block ∷ more) [] cover fits = tt
   are_kept (s ∷ rest) (block ∷ more) (stay ∷ path) cover fits = (
     kept_here s block.body stay cover.0 fits.0,
     are_kept rest more path cover.1 fits.1,

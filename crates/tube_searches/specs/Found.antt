@@ -16,8 +16,8 @@ visits_of (search ∷ rest) [] = []
 visits_of (search ∷ rest) (block ∷ more) =
     (record { tag = search.epoch.tag; root = search.root; block = block }) ∷ visits_of rest more
 
--- One stay for each selected epoch, each in the search box and each later one within reach of the
--- one before.
+-- One stay for each of the first selected epochs, as many as there are stays: each in the search
+-- box, and each later one within reach of the one before.
 abbrev pub IsPath : ℕ → GridBox → List ObsEpoch → List Stay → Type 0
 IsPath speed search epochs path = IsTrajectory speed search (map (λ epoch. epoch.tag) epochs) path
 
@@ -29,11 +29,11 @@ StayFits (Some body) FitsAt stay = FitsAt stay.at stay.offset
 abbrev pub PathFits : Meaning → ℕ → List Search → List Block → List Stay → Type 0
 PathFits m q [] blocks path = Unit {0}
 PathFits m q (search ∷ rest) [] path = Unit {0}
-PathFits m q (search ∷ rest) (block ∷ more) [] = ⊥
+PathFits m q (search ∷ rest) (block ∷ more) [] = Unit {0}
 PathFits m q (search ∷ rest) (block ∷ more) (stay ∷ path) =
     StayFits block.body (FitsEpoch m q search.root search.epoch) stay × PathFits m q rest more path
 
--- each position lies in an in or edge box of its epoch whose clock span has its offset, and in a
--- block of few satellites in the root
+-- each of its positions lies in an in or edge box of its epoch whose clock span has its offset, and
+-- in a block of few satellites in the root
 abbrev pub IsFoundIn : List Search → List Block → List Stay → Type 0
 IsFoundIn searches blocks path = AreFound (visits_of searches blocks) path

@@ -1,5 +1,5 @@
--- The fault of a paved block stands on one of its lines.
-use Rattle.std.proofs.Common.{◌≡◌, ℕ, ◌+◌, ◌<◌, arith, List, length, inl, inr, ap, Option, None, Some}
+-- The fault of a paved block stands on one of its lines, so it is told whatever comes behind it.
+use Rattle.std.proofs.Common.{◌≡◌, ℕ, ◌+◌, ◌<◌, arith, List, length, inl, inr, refl, sym, ap, subst, Option, None, Some}
 use Rattle.epoch_selection.specs.Searches.{Search}
 use Rattle.paving_log_check.proofs.BlockLemmas.{events_within}
 use Rattle.paving_log_check.specs.Admissible.{BlockFault}
@@ -14,8 +14,6 @@ use Rattle.sat_model.specs.Logs.{Body, Block, first_rows, lines_in, lines_of_bod
 use Rattle.sat_model.specs.Stages.{first_stage}
 use Rattle.sat_model.specs.declared.rules.Rules.{Rules}
 use Rattle.gnss_model.specs.declared.delays.Delays.{Delays}
-use Rattle.moving_tube.specs.Roots.{kept_with}
-use Rattle.tube_searches.specs.Tubes.{TubeValue, with_kept, tube_searches}
 
 module _ (delays : Delays) (rules : Rules) (root : GridBox) (own : OwnLines) (block : Block) (body : Body) (paved : block.body ≡ Some body) where
   many : lines_in block ≡ 3 + length block.sats + lines_of_all body.events
@@ -50,12 +48,12 @@ paved_fault delays rules behind own search rest real block more fault body paved
 paved_fault delays rules behind own search rest real block more fault body paved is (inr f) =
     absurd (omega (arith, f.1.2, is, fault_on_line delays rules search.root own block body paved f.1.0 f.1.1))
 
--- what is told behind a block that goes on from its root is told behind the block
-pub same_fault : (delays : Delays) (rules : Rules) (behind : ℕ) (own : OwnLines) (search : Search) (new : TubeValue) (body : Option Body) (block : Block) (more : List Block) (fault : Fault)
-    → block.body ≡ body → behind ≡ block.line + lines_in block
-    → BlockFault delays rules behind own search (tube_searches (with_kept new search.epoch.tag (Some search.root)) more) block more fault
-    → BlockFault delays rules behind own search (tube_searches (with_kept new search.epoch.tag (kept_with search.root body)) more) block more fault
-same_fault delays rules behind own search new None block more fault has is f = f
-same_fault delays rules behind own search new (Some body) block more fault has is f =
-    paved_fault delays rules behind own search (tube_searches (with_kept new search.epoch.tag (Some search.root)) more)
-    (tube_searches (with_kept new search.epoch.tag (kept_with search.root (Some body))) more) block more fault body has is f
+-- where a block of few satellites leaves the same searches, what is told before them is told before these
+pub same_fault : (delays : Delays) (rules : Rules) (behind : ℕ) (own : OwnLines) (search : Search) (rest real : List Search) (body : Option Body) (block : Block) (more : List Block) (fault : Fault)
+    → block.body ≡ body → behind ≡ block.line + lines_in block → (body ≡ None → real ≡ rest)
+    → BlockFault delays rules behind own search rest block more fault
+    → BlockFault delays rules behind own search real block more fault
+same_fault delays rules behind own search rest real None block more fault has is few f =
+    subst (λ (left : List Search). BlockFault delays rules behind own search left block more fault) (sym (few refl)) f
+same_fault delays rules behind own search rest real (Some body) block more fault has is few f =
+    paved_fault delays rules behind own search rest real block more fault body has is f

@@ -1,0 +1,58 @@
+//! The walk of a moving receiver.
+
+ghost use Rattle.grid_model.specs.Boxes.{grid_box};
+ghost use Rattle.moving_tube.specs.Hulls.{HullLies};
+ghost use Rattle.moving_tube.specs.Roots.{kept_of};
+ghost use Rattle.sat_model.specs.Contractors.{LiesIn};
+ghost use Rattle.tube_searches.specs.Tubes.{tube_value, with_kept, tube_searches, IsInside};
+
+use crate::tube::{Kept, Tube};
+use epoch_selection::Walk;
+use grid_model::{Box3, NoMemory};
+use moving_tube::cover_hull;
+use paving_log::LogEpoch;
+use paving_log_check::LogWalk;
+use rinex_obs::ObsEpoch;
+use std::alloc::Global;
+
+impl<'a> Walk<'a> for Tube<'a> {
+    ghost searches = { λ walk blocks. tube_searches (tube_value walk) blocks };
+
+    ghost behind = { λ walk tag kept blocks.
+        tube_searches (with_kept (tube_value walk) tag kept) blocks };
+
+    ghost keeps = { λ root block. kept_of root block };
+
+    ghost may_search = { λ walk root. LiesIn root (grid_box walk.searches.root) };
+
+    ghost may_keep = { λ walk kept. HullLies kept (grid_box walk.searches.root) };
+
+    ghost ready = { λ walk. IsInside (tube_value walk) };
+
+    fn next(&mut self) -> Option<(&'a ObsEpoch, Box3)> {
+        Tube::next(self)
+    }
+
+    fn go_on(&mut self, epoch: &ObsEpoch, kept: Option<Box3>) {
+        self.before = Some(Kept {
+            tag: epoch.tag,
+            part: kept,
+        });
+    }
+}
+
+/// It goes on from the hull of the boxes that an epoch kept, or from its root, where it has few
+/// satellites.
+impl<'a> LogWalk<'a> for Tube<'a> {
+    fn kept_in(
+        &self,
+        alloc: Global,
+        root: &Box3,
+        epoch: &LogEpoch,
+    ) -> Result<Option<Box3>, NoMemory> {
+        match epoch.body {
+            None => Ok(Some(*root)),
+            Some(_) => cover_hull(alloc, epoch),
+        }
+    }
+}
