@@ -48,7 +48,7 @@ from collections.abc import Iterable, Iterator
 from dataclasses import dataclass, field, fields
 from pathlib import Path
 
-from gpscover.command import Command, measure
+from gpscover.command import Command, measure, read_text
 from gpscover.errors import Error, UsageError
 from gpscover.geodesy import Vector, elevation
 from gpscover.integrity import in_um
@@ -303,7 +303,7 @@ def up_to_bounds(path: PathLike, mode: str) -> str:
 
     Error where another table comes behind, or they are of another mode.
     """
-    text = Path(path).read_text(encoding="utf-8")
+    text = read_text(path)
     head, mark, rest = (
         re.split(r"(?m)^([ \t]*\[bounds\].*)$", text, maxsplit=1)
         if "[bounds]" in text

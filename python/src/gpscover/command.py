@@ -40,6 +40,14 @@ def measure(word: object) -> float:
     return value
 
 
+def read_text(path: PathLike) -> str:
+    """The text of a file. Error where it isn't UTF-8."""
+    try:
+        return Path(path).read_text(encoding="utf-8")
+    except UnicodeDecodeError:
+        raise Error(f"{path}: it isn't a text in UTF-8") from None
+
+
 @contextlib.contextmanager
 def whole_file(path: PathLike) -> Iterator[TextIO]:
     """A text file that is written. Where that fails, or what is to stand in it, none is left."""

@@ -33,7 +33,7 @@ import tempfile
 from collections.abc import Iterator
 from pathlib import Path
 
-from gpscover.command import Command
+from gpscover.command import Command, read_text
 from gpscover.errors import Error
 from gpscover.log import Box, Epoch, Interval, PathLike, Row, calendar, epochs
 
@@ -168,7 +168,7 @@ def opened_lines(runs: Runs, settings: str) -> Iterator[str]:
 
 def run_open(args: argparse.Namespace) -> None:
     """Opens each satellite in turn."""
-    settings = Path(args.settings).read_text(encoding="utf-8")
+    settings = read_text(args.settings)
     with tempfile.TemporaryDirectory() as room:
         runs = Runs(args.program, args.obs, args.nav, args.folder or room)
         for line in opened_lines(runs, settings):
