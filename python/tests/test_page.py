@@ -21,7 +21,7 @@ import pytest
 from made_logs import EXAMPLES, RECORDED, ended_with
 
 from gpscover import Error, geodesy, page, region, summary
-from gpscover.log import calendar
+from gpscover.log import Rules, calendar
 from gpscover.log import epochs as read_epochs
 from gpscover.outline import outline
 
@@ -206,7 +206,7 @@ class TestParts:
 
     def test_settings_of_another_run_are_told(self):
         text = "outliers = 2\nbisections = 1_0\nwidth = 1000 # one metre\n"
-        assert list(page.settings_differ(text, (1, 10, 1000000))) == [
+        assert list(page.settings_differ(text, Rules(1, 10, 1000000))) == [
             "these settings have outliers = 2, and the log has 1: they aren't those of the log"
         ]
 
@@ -222,7 +222,7 @@ class TestParts:
 
     def test_settings_whose_numbers_are_none(self):
         for text in ("outliers = _\n", "bisections = __1\n", "width = " + "9" * 5000 + "\n"):
-            assert list(page.settings_differ(text, (1, 10, 1000000))) == []
+            assert list(page.settings_differ(text, Rules(1, 10, 1000000))) == []
 
     def test_without_plotly_a_line_says_so(self):
         told = "has no plotly; Debian: apt-get install python3-plotly, then /usr/bin/python3 -m gpscover"
