@@ -21,6 +21,7 @@ from made_logs import EXAMPLES, RECORDED, ended, ended_with
 
 from gpscover import shapes, zones
 from gpscover.geodesy import dot, earth_fixed
+from gpscover.log import Box
 from gpscover.log import epochs as read_epochs
 from gpscover.program import own_program
 from gpscover.region import hull_of
@@ -311,8 +312,9 @@ class TestAnswers:
                 for k in range(3)
                 for s in (-1, 1)
             ]
-            flat = [(*lo, *hi) for lo, hi in drawn_boxes(draw, 4)]
-            box = zones.Box("a", (*(e[0] for e in ends), *(e[1] for e in ends)))
+            flat = [Box(*lo, *hi) for lo, hi in drawn_boxes(draw, 4)]
+            low, high = zip(*ends)
+            box = zones.Corners("a", low, high)
             assert box.answer(flat) == zones.Prism("a", sides).answer(flat)
 
     def test_lines_of_a_log(self):
