@@ -8,15 +8,15 @@ use Rattle.input_files.proofs.input_grammars.NavTextGrammarNav.read.Goals as goa
 
 pub returns-in-Ok-clause-same : goal.returns-in-Ok-clause-same
 returns-in-Ok-clause-same c =
-    rw (sym c.deref.ensures.value) (read_settles (nav_text c.args.self.now.both) c.deref.result.now (records_of c.in-Ok.nav) c.in-Ok.ensures.exact
-    (no_nav_fault c.args.self.now.both c.deref.result.now c.in-Ok.ensures.first))
+    rw (sym c.deref.ensures.value) (read_settles (nav_text c.args.self.now.galileo) c.deref.result.now (records_of c.in-Ok.nav) c.in-Ok.ensures.exact
+    (no_nav_fault c.args.self.now.galileo c.deref.result.now c.in-Ok.ensures.first))
 
 pub returns-clause-gives : goal.returns-clause-gives
 returns-clause-gives c =
-    rw (sym c.deref.ensures.value) (rw c.of_nav.ensures (nav_gives c.args.self.now.both c.deref.result.now c.in-Err.error c.in-Err.ensures.fault))
+    rw (sym c.deref.ensures.value) (rw c.of_nav.ensures (nav_gives c.args.self.now.galileo c.deref.result.now c.in-Err.error c.in-Err.ensures.fault))
 
 pub returns-clause-same : goal.returns-clause-same
 returns-clause-same c =
-    rw (sym c.deref.ensures.value) (subst (SettlesErr (nav_text c.args.self.now.both) c.deref.result.now) (sym c.of_nav.ensures)
-    (file_settles (nav_text c.args.self.now.both) c.deref.result.now (λ r. input.Nav r) c.in-Err.error
+    rw (sym c.deref.ensures.value) (subst (SettlesErr (nav_text c.args.self.now.galileo) c.deref.result.now) (sym c.of_nav.ensures)
+    (file_settles (nav_text c.args.self.now.galileo) c.deref.result.now (λ r. input.Nav r) c.in-Err.error
     c.in-Err.ensures.exact))
