@@ -488,7 +488,7 @@ class TestInTheBrowser:
             page, "PAGE_LIMIT", os.path.getsize(f"{self.room}/receiver.html") - 20_000
         ):
             said = made(RECEIVER, f"{self.room}/thin.html")
-        assert re.search(r"^page.py: the boxes are those of one epoch in 2", said)
+        assert re.search(r"^page: the boxes are those of one epoch in 2", said)
         self.open("thin", f"#epoch={self.epochs('receiver')[1].index}")
         number = self.epochs("receiver")[1].index
         assert f"--from {number} --to {number}" in self.run_js(
