@@ -1,0 +1,8 @@
+-- A half-space in a direction.
+use Rattle.std.specs.Prelude.{◌≡◌}
+use Rattle.row_sums.specs.declared.half_spaces.HalfSpace.{HalfSpace}
+use Rattle.bound_search.specs.declared.directions.Direction.{Direction}
+
+-- its vector is the direction
+abbrev pub IsAlong : Direction → HalfSpace → Type 0
+IsAlong d h = (h.x ≡ d.x) × (h.y ≡ d.y) × (h.z ≡ d.z)
