@@ -306,7 +306,7 @@ class TestThisRepository:
         shutil.copytree(TOP, self.room / "gpscover", ignore=left_out)
 
     def run_in_copy(self, *words):
-        env = {"PATH": TOOLS, "HOME": str(self.room)}
+        env = {"PATH": TOOLS, "HOME": str(self.room), "GPSLOG_PYTHON": sys.executable}
         return subprocess.run(
             words, cwd=self.room / "gpscover", env=env, capture_output=True, text=True
         )
@@ -316,7 +316,7 @@ class TestThisRepository:
         began = os.times()
         solved = self.run_in_copy("./gpscover", "solve", *files, "receiver.log")
         checked = self.run_in_copy("./gpscover", "check", *files, "receiver.log")
-        table = self.run_in_copy(sys.executable, "scripts/summary.py", "receiver.log")
+        table = self.run_in_copy("./gpslog", "summary", "receiver.log")
         ended = os.times()
         took = (
             ended.children_user

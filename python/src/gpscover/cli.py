@@ -1,4 +1,4 @@
-"""The command `gpslog`, and its subcommands by the names of the scripts that they were."""
+"""The command `gpslog` and its subcommands."""
 
 from __future__ import annotations
 
@@ -79,9 +79,3 @@ def main(words: Sequence[str] | None = None) -> None:
         return status_of(all_commands().parse_args(given_words))
 
     run_tool(work, f"gpslog {named}" if named else "gpslog")
-
-
-def run_script(name: str) -> None:
-    """Runs a subcommand as the script of its name, whose words begin behind it."""
-    parser = given(argparse.ArgumentParser(), COMMANDS[name])
-    run_tool(lambda: status_of(parser.parse_args()))

@@ -237,7 +237,7 @@ function drawValues(position, detail) {
 // The command for a page with all of one epoch.
 const commandFor = (position) => {
   const number = table.epoch[position];
-  return `scripts/page.py ${data.logs.join(" ")} epoch${number}.html --from ${number} --to ${number}`;
+  return `./gpslog page ${data.logs.join(" ")} epoch${number}.html --from ${number} --to ${number}`;
 };
 
 function whyNone(position) {

@@ -1,7 +1,0 @@
-#!/usr/bin/env python3
-"""`gpslog bounds` by the name of its script."""
-from gpscover.bounds import *  # noqa: F403
-from gpscover.cli import run_script
-
-if __name__ == "__main__":
-    run_script("bounds")
