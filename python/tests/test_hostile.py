@@ -9,7 +9,8 @@ import sys
 import pytest
 from made_logs import HEAD, PAVED, RECORDED, ROOT, SOURCES, WITHIN, ended, written
 
-from gpscover import Error, bounds, geodesy, places, summary, suspects, zones
+from gpscover import Error, NumberError, bounds, geodesy, places, summary, suspects, zones
+from gpscover.command import measure
 
 
 class TestHostile:
@@ -17,6 +18,10 @@ class TestHostile:
 
     Each ends a script with a status and a line of its own.
     """
+
+    def test_a_whole_number_that_no_floating_point_number_holds(self):
+        with pytest.raises(NumberError):
+            measure(10**400)
 
     # Behind the head of a log, and the number of the line that is none.
     NO_LOGS = (

@@ -33,7 +33,7 @@ def measure(word: object) -> float:
     """A number among the words of a command line or of a file: finite, at most 10^15 in amount."""
     try:
         value = float(word)  # type: ignore[arg-type]
-    except ValueError:
+    except (ValueError, OverflowError):
         value = math.nan
     if not abs(value) <= GREATEST:
         raise NumberError(f"{word} isn't a number of at most 10^15 in amount")
