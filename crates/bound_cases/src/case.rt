@@ -57,7 +57,7 @@ impl Case {
             b"outliers" => self.outliers = outliers(rest)?,
             b"bound" => self.begin(bound_at(line)?),
             b"by" => return self.take_sum(line),
-            b"seek" => return Some(Some(self.sought(&target(rest)?)?)),
+            b"seek" => return Some(Some(self.sought(&target_of(rest)?)?)),
             _ => return None,
         }
         Some(None)
@@ -118,7 +118,7 @@ fn outliers(rest: Rest<'_>) -> Option<u8> {
 }
 
 /// What is sought.
-fn target(rest: Rest<'_>) -> Option<Target> {
+fn target_of(rest: Rest<'_>) -> Option<Target> {
     let (x, rest) = amount(rest, GREATEST_COMPONENT)?;
     let (y, rest) = amount(rest, GREATEST_COMPONENT)?;
     let (z, rest) = amount(rest, GREATEST_COMPONENT)?;
