@@ -19,7 +19,8 @@ TOP = Path(__file__).resolve().parent.parent
 DATA = TOP / "crates/gpscover/data"
 FILES = [DATA / name for name in ("receiver.obs", "receiver.nav", "settings.toml")]
 LOG = DATA / "receiver.log"
-WRONG_WORDS = 2, "usage: recheck.py [--track] OBS NAV SETTINGS LOG [--from N] [--to N], or recheck.py LOG\n"
+WRONG_WORDS = 2, ("usage: recheck.py [--track] OBS NAV SETTINGS LOG [--from N] [--to N] [--station STATION], or"
+                  " recheck.py LOG\n")
 
 
 def verdict(*words):
