@@ -12,13 +12,14 @@ from gpscover import Box, suspects
 
 STUB = """#!/usr/bin/env python3
 import sys
+assert sys.argv[6:] in ([], ["--station", "c"])
 opened = "G03 = [-1000000, 1000000]" in open(sys.argv[4]).read()
 assert "outliers = 0" in open(sys.argv[4]).read()
 sats = "".join(f"sat G0{k} 0 0 0 0 0 0 0 0 0 0\\n" for k in (3, 4))
 for index in (1, 2):
     kept = "edge 0 0 0" if opened or index == 2 else "out 0"
     block = f"epoch {index} {index} 2\\n{sats}root 0 0 0 1 1 1\\n{kept}\\ndone 0\\n"
-    open(sys.argv[5], "a").write(("gpscover 1\\nrules 0 0 1000\\n" if index == 1 else "") + block)
+    open(sys.argv[5], "w" if index == 1 else "a").write(("gpscover 1\\nrules 0 0 1000\\n" if index == 1 else "") + block)
 """
 
 
@@ -66,6 +67,11 @@ class TestSuspects:
         ):
             assert suspects.surely_broken(epoch_of(text, head)) == broken
 
+    def test_with_a_station_it_is_one_of_two_receivers(self):
+        epoch = epoch_of(FAULTY + "edge 0 -1500000 1500000\ndone 0\n")
+        line = suspects.log_line(epoch, suspects.AT_EITHER)
+        assert line.endswith(" broke their bounds at the receiver or the station: G05")
+
     def test_an_empty_epoch_says_so(self):
         assert "empty: more than 1 satellites" in suspects.log_line(
             epoch_of(FAULTY + "out 0\ndone 0\n")
@@ -92,11 +98,11 @@ class TestSuspects:
             stub = os.path.join(room, "stub")
             Path(stub).write_text(STUB)
             os.chmod(stub, 0o755)
-            lines = list(
-                suspects.opened_lines(
-                    suspects.Runs(stub, "a", "b", room), "[search]\noutliers = 1\n"
-                )
+            runs = [suspects.Runs(stub, "a", "b", room, station) for station in (None, "c")]
+            lines, others = (
+                list(suspects.opened_lines(it, "[search]\noutliers = 1\n")) for it in runs
             )
         assert len(lines) == 2
         assert re.search("^epoch 1 .* opening G03$", lines[0])
         assert lines[1] == "epochs 2, of which 1 are empty at outliers = 0"
+        assert others == [lines[0], lines[1] + "; a fault is one at the receiver or the station"]

@@ -31,7 +31,7 @@ from gpscover.runs import (
     solve,
     track,
 )
-from gpscover.settings import Settings
+from gpscover.settings import Settings, Station
 from gpscover.zones import Corners, Prism, Reach, read_zones
 
 __all__ = [
@@ -56,6 +56,7 @@ __all__ = [
     "Settings",
     "Skip",
     "SkipReason",
+    "Station",
     "Verdict",
     "check",
     "guard",

@@ -3,6 +3,7 @@
 usage: gpslog bounds LOG X Y Z single|dual [options]
        gpslog bounds LOG X Y Z single|dual --every SECONDS --settings SETTINGS --files OBS NAV
                      --folder FOLDER [options]
+       gpslog bounds LOG X Y Z single|dual --station SETTINGS [--more FACTOR]
 
 LOG is what `gpscover solve` writes of the files with `bisections = 0`: its lines have the
 satellites' places. X Y Z is a rough place of the receiver in the earth-fixed frame in metres, good
@@ -34,6 +35,12 @@ is one for each stretch of so many seconds: FOLDER gets part01.toml and so on, w
 to [bounds] with the tables of a stretch behind, and the lines are printed that solve the epochs of
 each part and check them.
 
+With --station, LOG is what `gpscover solve --station` writes by SETTINGS, which have the station's
+place, and X Y Z is a known place of the receiver. What is printed is how large the differences of
+both receivers were, less the median of each epoch, by elevation, and a table [bounds] that holds
+for FACTOR times (1.5) each of them. A station that is over 20 km away, or over 200 m higher or
+lower, is warned of. What was seen in an hour is no bound of another: declare more.
+
 Exit status: 0; 1 where a file can't be read or written, or LOG isn't a whole log, has no
 satellites, or has another search box; 2 for a wrong command line.
 """
@@ -48,6 +55,7 @@ from collections.abc import Iterable, Iterator
 from dataclasses import dataclass, field, fields
 from pathlib import Path
 
+from gpscover import differences
 from gpscover.command import Command, measure, read_text
 from gpscover.errors import Error, UsageError
 from gpscover.geodesy import Vector, elevation
@@ -404,6 +412,12 @@ def arguments(parser: argparse.ArgumentParser) -> None:
     parser.add_argument(
         "--program", default="./gpscover", help="with --every: the program (./gpscover)"
     )
+    parser.add_argument(
+        "--station", metavar="SETTINGS", help="bounds of differences: the settings of LOG"
+    )
+    parser.add_argument(
+        "--more", type=measure, default=1.5, metavar="FACTOR", help="with --station (1.5)"
+    )
 
 
 def parts_of(args: argparse.Namespace) -> Parts:
@@ -432,8 +446,11 @@ def parts_of(args: argparse.Namespace) -> Parts:
 
 def run(args: argparse.Namespace) -> int:
     """Prints the tables, or writes those of each stretch. The status."""
-    parts = parts_of(args)
-    found = stretches(args.log, (args.x, args.y, args.z), args.every)
+    parts, place = parts_of(args), (args.x, args.y, args.z)
+    if args.station is not None:
+        print(*differences.tables(args.log, place, args.station, args.more), sep="\n")
+        return 0
+    found = stretches(args.log, place, args.every)
     whole = args.every is None
     print(*(tables(found[0].seen, parts) if whole else write_parts(found, parts, args)), sep="\n")
     return 0

@@ -76,6 +76,8 @@ class SkipReason(str, Enum):
     NOT_NEAR_IN_TIME = "5"
     EPHEMERIS_OUT_OF_BOUNDS = "6"
     NEAR_EARTH_CENTRE = "7"
+    NOT_SEEN_BY_STATION = "8"
+    FAR_FROM_STATION = "9"
 
     @property
     def words(self) -> str:
@@ -91,6 +93,8 @@ SKIP_WORDS = {
     SkipReason.NOT_NEAR_IN_TIME: "none of its ephemerides is near enough in time",
     SkipReason.EPHEMERIS_OUT_OF_BOUNDS: "its ephemeris is out of bounds",
     SkipReason.NEAR_EARTH_CENTRE: "the search box comes too near to the earth's centre",
+    SkipReason.NOT_SEEN_BY_STATION: "the station doesn't have it then",
+    SkipReason.FAR_FROM_STATION: "its codes at receiver and station are far apart",
 }
 
 

@@ -1,7 +1,7 @@
 """Tells which satellites surely broke their declared bounds.
 
-usage: gpslog suspect log LOG
-       gpslog suspect open OBS NAV SETTINGS [--program GPSCOVER] [--folder FOLDER]
+usage: gpslog suspect log LOG [--station]
+       gpslog suspect open OBS NAV SETTINGS [--station STATION] [--program GPSCOVER] [--folder FOLDER]
 
 `log` reads a log that was solved with outliers = 1 or more. At each point and clock offset that
 fits, all but at most q satellites keep their bounds. A satellite is named where in no kept box
@@ -15,6 +15,9 @@ satellite is among those whose opening leaves a region, if one alone is faulty. 
 have a table [galileo], its offset is opened to 1 km in a run of its own, which opens all satellites
 of Galileo by as much. Only epochs that are empty with the bounds as they are get a line. The files
 of these runs stand in FOLDER, or in a folder that is removed at the end.
+
+With a station, which `log` is told by --station and `open` by its file, the bounds are those of
+differences: a fault is the receiver's or the station's, and which of the two isn't told.
 
 A satellite that isn't named can be faulty too: that an epoch isn't empty says nothing of its
 bounds.
@@ -38,6 +41,7 @@ from gpscover.errors import Error
 from gpscover.log import Box, Epoch, Interval, PathLike, Row, calendar, epochs
 
 OPENED_MM = 1_000_000
+AT_EITHER = " at the receiver or the station"
 
 
 def clock_span(row: Row, box: Box) -> Interval:
@@ -78,8 +82,8 @@ def surely_broken(epoch: Epoch) -> list[str]:
     return [epoch.rows[k].satellite for k in sorted(left)]
 
 
-def log_line(epoch: Epoch) -> str:
-    """What a log says of an epoch's satellites."""
+def log_line(epoch: Epoch, place: str = "") -> str:
+    """What a log says of an epoch's satellites, and where, if that isn't at the receiver alone."""
     head = f"epoch {epoch.index} {calendar(epoch.ps)}"
     if epoch.few:
         return f"{head} few"
@@ -90,7 +94,7 @@ def log_line(epoch: Epoch) -> str:
         )
     broken = surely_broken(epoch)
     return (
-        f"{head} broke their bounds: {' '.join(broken)}"
+        f"{head} broke their bounds{place}: {' '.join(broken)}"
         if broken
         else f"{head} none is shown to have"
     )
@@ -125,15 +129,23 @@ def with_open_offset(settings: str) -> str | None:
 class Runs:
     """Runs the program on the same files with other settings."""
 
-    def __init__(self, program: PathLike, obs: PathLike, nav: PathLike, folder: PathLike) -> None:
+    def __init__(
+        self,
+        program: PathLike,
+        obs: PathLike,
+        nav: PathLike,
+        folder: PathLike,
+        station: PathLike | None = None,
+    ) -> None:
         self.program, self.obs, self.nav = str(program), str(obs), str(nav)
         self.folder = Path(folder)
+        self.options = [] if station is None else ["--station", str(station)]
 
     def solve(self, name: str, settings: str) -> list[Epoch]:
         """The epochs that the program finds with these settings."""
         toml, log = self.folder / f"{name}.toml", self.folder / f"{name}.log"
         toml.write_text(settings, encoding="utf-8")
-        words = [self.program, "solve", self.obs, self.nav, str(toml), str(log)]
+        words = [self.program, "solve", self.obs, self.nav, str(toml), str(log), *self.options]
         ran = subprocess.run(words, stdout=subprocess.DEVNULL, stderr=subprocess.PIPE, text=True)
         if ran.returncode:
             raise Error(f"{' '.join(words)} ended with {ran.returncode}: {ran.stderr.strip()}")
@@ -163,14 +175,15 @@ def opened_lines(runs: Runs, settings: str) -> Iterator[str]:
             or "none: more than one satellite broke its bounds, or the receiver was outside"
         )
         yield f"epoch {index} {calendar(epoch.ps)} empty; a region is left when opening {names}"
-    yield f"epochs {len(given)}, of which {len(empty)} are empty at outliers = 0"
+    end = f"; a fault is one{AT_EITHER}" if runs.options and empty else ""
+    yield f"epochs {len(given)}, of which {len(empty)} are empty at outliers = 0{end}"
 
 
 def run_open(args: argparse.Namespace) -> None:
     """Opens each satellite in turn."""
     settings = read_text(args.settings)
     with tempfile.TemporaryDirectory() as room:
-        runs = Runs(args.program, args.obs, args.nav, args.folder or room)
+        runs = Runs(args.program, args.obs, args.nav, args.folder or room, args.station)
         for line in opened_lines(runs, settings):
             print(line)
 
@@ -182,7 +195,7 @@ def run_log(args: argparse.Namespace) -> None:
             raise Error(
                 f"{args.log} was solved with outliers = 0, where no satellite may break its bounds"
             )
-        print(log_line(epoch))
+        print(log_line(epoch, AT_EITHER if args.station else ""))
 
 
 def arguments(parser: argparse.ArgumentParser) -> None:
@@ -190,10 +203,12 @@ def arguments(parser: argparse.ArgumentParser) -> None:
     ways = parser.add_subparsers(required=True)
     log = ways.add_parser("log", help="from a log that was solved with outliers = 1 or more")
     log.add_argument("log", metavar="LOG")
+    log.add_argument("--station", action="store_true", help="it was solved with a station")
     log.set_defaults(work=run_log)
     opened = ways.add_parser("open", help="by opening each satellite in turn at outliers = 0")
     for name in ("obs", "nav", "settings"):
         opened.add_argument(name, metavar=name.upper())
+    opened.add_argument("--station", help="the observation file of a station")
     opened.add_argument("--program", default="./gpscover", help="the program (./gpscover)")
     opened.add_argument("--folder", help="where the runs' files are kept")
     opened.set_defaults(work=run_open)
