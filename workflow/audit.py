@@ -19,7 +19,7 @@ import sys
 import tempfile
 from pathlib import Path
 
-from files import StepError, digest, unpack_all, unpacked
+from files import StepError, digest, unpack_all, unpack_one, unpacked
 
 ROOT = Path(__file__).resolve().parent.parent
 
@@ -45,7 +45,8 @@ def expect(path, wanted, what):
 def verdict_of(part, files, args, room):
     """What the second checker says of a part, whose files are those of the database."""
     station, day, number = part
-    for name, wanted, _ in [files["observations"], *files["navigation"]]:
+    beside = [files["beside"]] if "beside" in files else []
+    for name, wanted, _ in [files["observations"], *files["navigation"], *beside]:
         expect(name, wanted, name)
     obs, nav = unpack_all(
         files["observations"][0], [name for name, *_ in files["navigation"]], room
@@ -55,15 +56,12 @@ def verdict_of(part, files, args, room):
     unpacked(Path(args.logs, station, day, f"{number}.log.zst"), log)
     for path, role in (obs, "obs"), (nav, "nav"), (settings, "settings"), (log, "log"):
         expect(path, files[role][1], f"{role} ({path})" if role == "settings" else role)
-    words = [
-        sys.executable,
-        ROOT / "second/recheck.py",
-        obs,
-        nav,
-        settings,
-        log,
-        *files["log"][0].split(),
-    ]
+    words = [sys.executable, ROOT / "second/recheck.py", obs, nav, settings, log]
+    words += files["log"][0].split()
+    for name, _, _ in beside:
+        unpack_one(name, f"{room}/station")
+        expect(f"{room}/station", files["station"][1], "station")
+        words += ["--station", f"{room}/station"]
     ended = subprocess.run(words, capture_output=True, text=True)
     return (ended.stdout or ended.stderr).strip()
 

@@ -43,6 +43,7 @@ class Station:
     settings: str
     place: tuple  # x, y, z in mm, or None
     bounds: str  # words of `gpslog bounds` behind the place, or an empty text
+    beside: str  # which other one is its station, for rows of differences, or an empty text
 
 
 def date_of(value, key):
@@ -113,6 +114,7 @@ def station_of(name, own, common):
         value["settings"],
         place_of(value.get("place"), f"{name}: place"),
         value.get("bounds", ""),
+        value.get("beside", ""),
     )
 
 
@@ -135,6 +137,10 @@ class Network:
         self.costs = {**COSTS, **(config.get("costs") or {})}
         self.parts = range(1, -(-self.epochs // self.part) + 1)
         for name, station in self.stations.items():
+            if station.beside and (station.beside not in self.stations or station.beside == name):
+                raise ConfigError(f"{name}: beside: {station.beside!r} is no other station")
+            if station.beside and station.bounds:
+                raise ConfigError(f"{name}: bounds: those of differences stand in the settings")
             for pattern in (station.observations, *station.navigation, station.settings):
                 self.named(pattern, name, f"{station.days[0]}")
 
@@ -152,6 +158,16 @@ class Network:
         """The name of the day's observation file."""
         return self.named(self.stations[station].observations, station, day)
 
+    def beside(self, station, day):
+        """The name of the day's observation file of the station's own station, or an empty text."""
+        name = self.stations[station].beside
+        return self.observations(name, day) if name else ""
+
+    def beside_place(self, station):
+        """Where that one is in mm, or None."""
+        name = self.stations[station].beside
+        return self.stations[name].place if name else None
+
     def navigation(self, station, day):
         """The names of the day's navigation files; the header of the first is taken."""
         return [self.named(pattern, station, day) for pattern in self.stations[station].navigation]
@@ -162,7 +178,8 @@ class Network:
 
     def there(self, station, day):
         """Which of the day's files are there: a change of one is seen, a missing one fails its jobs alone."""
-        names = [self.observations(station, day), *self.navigation(station, day)]
+        names = [self.observations(station, day), self.beside(station, day)]
+        names += self.navigation(station, day)
         return [name for name in names if os.path.exists(name)]
 
     def station_days(self):

@@ -33,6 +33,7 @@ from files import (
     run,
     settle,
     unpack_all,
+    unpack_one,
     unpacked,
     write_json,
 )
@@ -46,28 +47,34 @@ BOUNDS_HEAD = "[bounds]"
 
 
 def unpack(args, room):
-    """Unpacks the files of a part, and notes what they were made of."""
+    """Unpacks the files of a part, and notes what they were made of. Without a station its file is empty."""
     obs, nav = unpack_all(args.file["observations"], args.words, room)
     names = [
         ("observations", args.file["observations"]),
         *(("navigation", name) for name in args.words),
     ]
+    Path(f"{room}/station").touch()
+    if args.file["beside"]:
+        unpack_one(args.file["beside"], f"{room}/station")
+        names.append(("beside", args.file["beside"]))
     write_json(
         f"{room}/sources", [{"role": role, "name": name, **digest(name)} for role, name in names]
     )
     settle(obs, args.file["obs"])
     settle(nav, args.file["nav"])
+    settle(f"{room}/station", args.file["station"])
     settle(f"{room}/sources", args.file["sources"])
 
 
 # ---- settings
 
 
-def filled(path, place):
-    """The settings of a template: `$centre` is the station's place in mm."""
+def filled(path, place, beside):
+    """The settings of a template: `$centre` is the station's place in mm, `$station` that of its station."""
     text = Path(path).read_text(encoding="utf-8")
+    places = {"centre": place, "station": beside}
     try:
-        return Template(text).substitute({"centre": list(place)} if place else {})
+        return Template(text).substitute({key: list(at) for key, at in places.items() if at})
     except (KeyError, ValueError) as error:
         raise StepError(
             f"{path}: {error} can't be filled: does the station have a place?"
@@ -103,8 +110,10 @@ def settings(args, room):
     """The settings of a day: those of the station, or a template with its place and its bounds by elevation."""
     if not os.path.exists(args.file["template"]):
         raise StepError(f"{args.file['template']} isn't there")
-    place = tuple(map(int, args.place.split(","))) if args.place else None
-    text = filled(args.file["template"], place)
+    place, beside = (
+        tuple(map(int, it.split(","))) if it else None for it in (args.place, args.beside)
+    )
+    text = filled(args.file["template"], place, beside)
     if args.bounds:
         text = by_elevation(args, text, place, room)
     Path(f"{room}/settings").write_text(text, encoding="utf-8")
@@ -121,10 +130,16 @@ def program_of(args):
     return args.program
 
 
+def station_words(args):
+    """The words that name the station's file, where there is one."""
+    path = args.file["station"]
+    return ["--station", path] if os.path.getsize(path) else []
+
+
 def solve(args, room):
     """Solves the epochs of a part. The report is left out: the log has all of it."""
     files = [args.file[key] for key in ("obs", "nav", "settings")]
-    words = [program_of(args), "solve", *files, f"{room}/log", *args.words]
+    words = [program_of(args), "solve", *files, f"{room}/log", *args.words, *station_words(args)]
     run(words, "solve", stdout=subprocess.DEVNULL)
     settle(f"{room}/log", args.file["log"])
 
@@ -149,9 +164,10 @@ def put_aside(args, verdict):
 
 def check(args, room):
     """Checks a log with the options that it was solved with, and notes verdict and checksums."""
-    keys = ("obs", "nav", "settings", "log")
+    more = station_words(args)
+    keys = ("obs", "nav", "settings", "log") + (("station",) if more else ())
     files = {key: digest(args.file[key]) for key in keys}
-    words = [program_of(args), "check", *(args.file[key] for key in keys), *args.words]
+    words = [program_of(args), "check", *(args.file[key] for key in keys[:4]), *args.words, *more]
     ended = subprocess.run(words, capture_output=True, text=True)
     said = last_line(ended.stdout or ended.stderr)
     if ended.returncode == 1 or ended.returncode == 3 and said.startswith("log "):
@@ -302,6 +318,7 @@ def arguments():
     parser.add_argument("--part", default="")
     parser.add_argument("--program", default="")
     parser.add_argument("--place", default="")
+    parser.add_argument("--beside", default="")
     parser.add_argument("--bounds", default="")
     parser.add_argument("--epochs", type=int, default=0)
     parser.add_argument("--name", nargs="+", default=[], metavar="KEY=FILE")

@@ -2,7 +2,8 @@
 
 epochs  a line an epoch, as `gpslog summary --csv` has it, with station, day and part
 files   the files of each part with size, checksum, and what was said of them:
-        role observations, navigation (as they were given), obs, nav, settings (as the program read them), log
+        role observations, navigation, beside (as they were given), obs, nav, station, settings (as the program
+        read them), log; beside and station only where there is a station beside the receiver
 absent  days that were left out since they have no observation file
 """
 import csv
@@ -18,7 +19,7 @@ ROW_HEAD = ["station", "day", "part", *summary.COLUMNS]
 WHOLE = {"part", "epoch", "satellites", "in", "edge", "out", "splits"}
 TEXT = {"station", "day", "gps_time", "mark", "faces"}
 FILES = "station day part role name bytes sha256 verdict program commit_id".split()
-ROLES = ("obs", "nav", "settings", "log")
+ROLES = ("obs", "nav", "station", "settings", "log")
 HOURS = range(24)
 
 
@@ -58,7 +59,9 @@ def file_rows(path):
     for it in value["sources"]:
         yield [*head, it["role"], it["name"], it["bytes"], it["sha256"], "", "", ""]
     for role in ROLES:
-        it = value["files"][role]
+        it = value["files"].get(role)
+        if it is None:  # a receiver without a station
+            continue
         said = (
             [value["verdict"], program["sha256"], program["commit"]] if role == "log" else [""] * 3
         )

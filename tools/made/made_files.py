@@ -251,12 +251,12 @@ def sums(report):
     return f"boxes in {inside} edge {edge} out {out} bisections {splits}"
 
 
-def solve(program, folder, texts):
+def solve(program, folder, texts, options=()):
     """Writes files into a folder and has them solved: the report, and the names with that of the log."""
     for kind, text in texts.items():
         (folder / f"made.{kind}").write_text(text, encoding="ascii", newline="\n")
     files = [str(folder / f"made.{kind}") for kind in ("obs", "nav", "toml", "log")]
-    return run([program, "solve", *files]), files
+    return run([program, "solve", *files, *options]), files
 
 
 def compared(program, made, printed, own):
