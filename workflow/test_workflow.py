@@ -25,6 +25,7 @@ from tools.made import made_network
 
 HERE = Path(__file__).resolve().parent
 ROOT = HERE.parent
+STATION = ROOT / "examples/station"
 TABLES = ("network.sqlite", "network.html", "days/GEON/2005-04-02.csv", "days/UBX0/2008-05-26.csv")
 PARTS = ("GEON/2005-04-02/1", "GEON/2005-04-02/2", "UBX0/2008-05-26/1", "UBX0/2008-05-26/2")
 LATEST = 120  # seconds that a run may take
@@ -111,7 +112,7 @@ class Room:
         data.mkdir()
         for name, obs, nav in (
             ("UBX02008147", ROOT / "examples/receiver.obs", ROOT / "examples/receiver.nav"),
-            ("GEON2005092", HERE / "recorded/station.obs", HERE / "recorded/station.nav"),
+            ("GEON2005092", STATION / "receiver.obs", STATION / "receiver.nav"),
         ):
             (data / f"{name}.obs.gz").write_bytes(gzip.compress(obs.read_bytes(), mtime=0))
             shutil.copy(nav, data / f"brdc{name[4:]}.nav")
