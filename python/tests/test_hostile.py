@@ -42,7 +42,7 @@ class TestHostile:
         (PAVED.replace("895816769999000000000", "-1"), 3),
         (PAVED.replace("895816769999000000000", "4000000000000000000000"), 3),
         (PAVED.replace("000 5\n", "000\n"), 3),
-        ("few 1 0 0\nskip G01 8\n", 4),
+        ("few 1 0 0\nskip G01 10\n", 4),
         ("few 1 0 0\nskip  3\n", 4),
         ("few 1 0 0\nskip G01 6 1 1\n", 4),
         ("epoch 1 0 0\nsat  0 0 0 0 0 0 0 0 0 0\n" + ROOT, 4),

@@ -41,7 +41,7 @@ class TestMarks:
         assert "is the position in the header zero, or search.centre in metres?" in lines[1]
 
     def test_every_reason_of_a_skip_has_words(self):
-        for reason in ("1", "2", "3", "4", "5", "6 20", "7"):
+        for reason in ("1", "2", "3", "4", "5", "6 20", "7", "8", "9"):
             _, lines = totals_of(f"few 1 0 0\nskip G01 {reason}\n")
             assert "1 times a satellite isn't used since " in lines[1]
 

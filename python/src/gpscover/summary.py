@@ -83,6 +83,8 @@ HINTS = {
     SkipReason.NO_EPHEMERIS: OTHER_DAY,
     SkipReason.NOT_NEAR_IN_TIME: OTHER_DAY,
     SkipReason.NEAR_EARTH_CENTRE: NO_CENTRE,
+    SkipReason.NOT_SEEN_BY_STATION: "; is its file of another day, or station.age too short?",
+    SkipReason.FAR_FROM_STATION: "; is a clock 16 ms off, or the station's file another one's?",
 }
 ONE_MESSAGE = "; only records of F/NAV are taken, or by galileo.message those of I/NAV"
 GALILEO_HINTS = HINTS | dict.fromkeys(
