@@ -393,3 +393,54 @@ class TestTracks(Room):
             "4 in the file, 2 in the log: 2 paved, 0 few, 1 empty, 0 reach the search box; 2 left out;"
             " the track ends with epoch 2, which keeps no box"
         )
+
+
+PAIR = EXAMPLES / "station"
+STATION_CHANGES = (
+    (
+        "a code of the station",
+        edited("station.obs", r"(?m)^(G08 +\d+)", r"\g<1>0"),
+        "station: ",
+    ),
+    (
+        "that there is one",
+        edited("evidence.txt", r"(?m)^station .*\n", ""),
+        "station.obs doesn't belong to the bundle",
+    ),
+    ("a file less", lambda folder: (folder / "station.obs").unlink(), "station.obs is missing"),
+)
+
+
+class TestStation(Room):
+    @classmethod
+    def setup_class(cls):
+        super().setup_class()
+        text = (PAIR / "settings.toml").read_text(encoding="utf-8")
+        settings = cls.room / "my.toml"
+        settings.write_text(re.sub("(?m)^bisections = .*", "bisections = 8", text))
+        cls.files = [PAIR / "receiver.obs", PAIR / "receiver.nav", settings, cls.room / "my.log"]
+        cls.options = ["--to", "1", "--station", str(PAIR / "station.obs")]
+        words = [PROGRAM, "solve", *map(str, cls.files), *cls.options]
+        subprocess.run(words, stdout=subprocess.DEVNULL, check=True)
+        cls.bundle = cls.room / "bundle"
+        words = ["make", cls.bundle, *cls.files, *cls.options, "--program", PROGRAM]
+        cls.status, said, _ = ended_with(evidence, *words)
+        cls.lines = dict(line.split(" ", 1) for line in said.splitlines())
+
+    def test_the_station_s_file_is_of_the_bundle(self):
+        assert self.status == 0
+        known = evidence.checksum(PAIR / "station.obs")
+        assert self.lines["station"].startswith("station.obs ")
+        assert self.lines["station"].endswith(f" sha256 {known}")
+        assert (self.lines["check"], self.lines["recheck"]) == (
+            f"yes {boxes_in(self.files[3])}",
+        ) * 2
+        assert self.check(self.copy())[0] == 0
+
+    def test_each_change_is_told(self):
+        self.expect_told((name, change, re.escape(told)) for name, change, told in STATION_CHANGES)
+
+    def test_it_is_no_evidence_without_its_station(self):
+        words = ["make", self.room / "none", *self.files, "--to", "1", "--program", PROGRAM]
+        with pytest.raises(Error, match="settings 33 Outside station.place"):
+            ended_with(evidence, *words)
