@@ -297,6 +297,43 @@ class TestWhole(Base):
         assert re.search(r"G26 = \[.*\]  # 5\.\d to 5\.\d degrees", text)
         assert text.count("[bounds]") == 1
 
+    def test_a_station_beside_a_receiver(self):
+        data = self.room.path / "data"
+        observations = (STATION / "station.obs").read_bytes()
+        (data / "STAT2005092.obs.gz").write_bytes(gzip.compress(observations, mtime=0))
+        text = (STATION / "settings.toml").read_text()
+        for key, value in (("centre", "$centre"), ("place", "$station"), ("bisections", "16")):
+            text = re.sub(f"(?m)^{key} = .*", f"{key} = {value}", text)
+        (data / "pair.toml").write_text(text)
+        config = self.room.configuration().replace(
+            "settings: data/dual.toml", "beside: STAT, settings: data/pair.toml"
+        )
+        place = "[-3978241.958, 3382840.234, 3649900.853]"
+        self.room.configure(
+            f"{config}  STAT: {{days: [2005-04-02], settings: data/dual.toml, place: {place}}}\n"
+        )
+        assert self.room.run() == 0, self.room.said()
+        base = sqlite3.connect(self.room.out / "network.sqlite")
+        words = "SELECT station, role FROM files WHERE role IN ('beside', 'station')"
+        assert sorted(base.execute(words)) == [("GEON", "beside")] * 2 + [("GEON", "station")] * 2
+        widest = "SELECT max(up_m) FROM epochs WHERE station = 'GEON'"
+        assert base.execute(widest).fetchone()[0] < 60
+        base.close()
+        assert (
+            "place = [-3978241958, 3382840234, 3649900853]\n"
+            in (self.room.out / "settings/GEON/2005-04-02.toml").read_text()
+        )
+        words = [
+            sys.executable,
+            HERE / "audit.py",
+            "out/network.sqlite",
+            "out/logs",
+            "--sample",
+            "9",
+        ]
+        ran = subprocess.run(words, cwd=self.room.path, capture_output=True, text=True)
+        assert (ran.returncode, ran.stdout.count(": yes ")) == (0, 6), ran.stdout + ran.stderr
+
     def test_a_wrong_configuration(self):
         config = self.room.configuration()
         for wrong, said in (
@@ -310,6 +347,16 @@ class TestWhole(Base):
             ),
             (config.replace("[2008-05-26]", "[26.5.2008]"), "UBX0: days: '26.5.2008' is no date"),
             (config.replace("settings: data/single.toml, ", ""), "stations: UBX0 has no settings"),
+            (
+                config.replace("settings: data/single", "beside: SOME, settings: data/single"),
+                "UBX0: beside: 'SOME' is no other station",
+            ),
+            (
+                config.replace(
+                    "settings: data/single", "beside: GEON, bounds: x, settings: data/single"
+                ),
+                "UBX0: bounds: those of differences stand in the settings",
+            ),
         ):
             self.room.configure(wrong)
             assert self.room.run() != 0
