@@ -911,6 +911,14 @@ def station_file_cases(folder):
             ({"settings": header}, YES_0),
             ({"settings": header, "station": station.replace("APPROX POSITION XYZ", "OTHER POSITION XYZ ")},
              f"station 28 NoPosition line {end}"),
+            *(({"settings": header, "station": station.replace("        0.0000        0.0000        0.0000", place, 1)}, said)
+              for place, said in (
+                ("  3960000.0000  5280000.0000        0.0000", YES_0),
+                ("  3960000.0000  5280000.0000        0.0010", "settings 33 Outside station.place"),
+                ("  8500000.0000        0.0000        0.0000", "settings 33 Outside station.place"),
+                ("  8500000.0010        0.0000        0.0000", f"station 28 NoPosition line {end}"))),
+            ({"settings": header, "station": same.replace("        0.0000        0.0000", "  8000000.0000        0.0000", 1)},
+             f"station 43 NotRising line {heads[1]}"),
             ({"station": same}, f"station 43 NotRising line {heads[1]}"),
             ({"station": twice}, f"station 43 NotRising line {heads[1]}"),
             ({"station": event}, f"station 43 NotRising line {heads[1] + 1}"),
