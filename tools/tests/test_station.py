@@ -176,8 +176,10 @@ class TestRecorded:
         assert self.said("solve", *files, "--station", str(self.room / "none")) == (4, "station fault\n")
         assert not log.exists()
 
-    def test_other_commands_have_no_station(self):
+    def test_wrong_words(self):
         files, station = self.files()
+        for words in (["--station"], ["--station", "-x"], [*station, *station]):
+            assert self.said("solve", *files, *words)[0] == 2
         for words in (["judge", files[-1]], ["pave", files[-1], "x"], ["make", "7", "3"]):
             assert self.said(*words, *station)[0] == 2
 
