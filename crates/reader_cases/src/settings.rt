@@ -33,9 +33,7 @@ pub fn print_station(rt: &HostRuntime, fields: Fields<'_>) -> io::Result<()> {
 /// Prints the number and the key of a fault.
 fn print_error(rt: &HostRuntime, error: &SettingsError) -> io::Result<()> {
     match error {
-        SettingsError::Refused(fault) => {
-            println!(rt; "{} {}", fault.number, fault.key.as_str())
-        }
+        SettingsError::Refused(fault) => { println!(rt; "{} {}", fault.number, fault.key.as_str()) }
         SettingsError::NoMemory => println!(rt; "no memory"),
     }
 }
