@@ -15,7 +15,7 @@ returns-in_default-clause-gives g c =
       refl,
       refl,
       record {
-        over = λ kept blocks. sym (told.searches blocks) ∙ c.in_default.ensures (told.ready c.requires.1 kept) blocks;
+        over = λ kept blocks. sym (told.searches blocks) ∙ c.in_default.ensures.first (told.ready c.requires.1 kept) blocks;
         lost = c.lost_at-self.ensures;
       },
     )
