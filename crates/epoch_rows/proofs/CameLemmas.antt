@@ -62,27 +62,27 @@ module _ (m : Meaning) (renews : Bool) (rules : Rules) where
 
   module _ (left : EpochsLeft) (hull : Option GridBox) (given block : Block) (next : EpochsLeft) (gave : GivesNext m rules.outliers left hull given next)
       (paves : Paves (maker_of m renews next.hand) rules given block) where
-    abbrev search : Search
-    search = search_in (grid_box gave.root) gave.epoch
+    abbrev here : Search
+    here = search_in (grid_box gave.root) gave.epoch
 
-    solved : IsSolved m renews rules search block
+    solved : IsSolved m renews rules here block
     solved = made_of Paves left hull given block next gave paves
 
     -- the hull of its boxes lies in its root
     pub next_kept : IsKept next.last (hull_kept block.body)
     next_kept =
         let root = grid_box gave.root in
-        let few = same_few (HasRun (maker_of m renews (Some (hand_of search given))) rules) block given.body block.body solved.made.body in
-        let lies = told_lies (maker_of m renews (Some (hand_of search given))) rules block (suits_rows m renews search given block.sats paves.sats) root given.body (box_lies gave.root)
+        let few = same_few (HasRun (maker_of m renews (Some (hand_of here given))) rules) block given.body block.body solved.made.body in
+        let lies = told_lies (maker_of m renews (Some (hand_of here given))) rules block (suits_rows m renews here given block.sats paves.sats) root given.body (box_lies gave.root)
             (given_root m.delays root gave.grown.own given.sats given.body gave.grown.body) solved.made.body in
         subst (λ (l : Option Last). IsKept l (hull_kept block.body)) (sym gave.last)
         (subst (λ (f : Bool). HullLies (kept_told f root (hull_kept block.body)) root) few lies)
 
     module _ (kept : IsKept left.last hull) where
       pub next_searches : (blocks : List Block)
-          → left.searches hull (block ∷ blocks) ≡ search ∷ next.searches (hull_kept block.body) blocks
+          → left.searches hull (block ∷ blocks) ≡ here ∷ next.searches (hull_kept block.body) blocks
       next_searches blocks =
-          (gave.is_first kept).goes_on block blocks (same_few (HasRun (maker_of m renews (Some (hand_of search given))) rules) block given.body block.body solved.made.body)
+          (gave.is_first kept).goes_on block blocks (same_few (HasRun (maker_of m renews (Some (hand_of here given))) rules) block given.body block.body solved.made.body)
 
       more_came : (blocks : List Block) → CameOf next (hull_kept block.body) blocks
           → CameOf left hull (block ∷ blocks)

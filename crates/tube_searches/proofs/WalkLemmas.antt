@@ -9,8 +9,8 @@ use Rattle.grid_model.specs.declared.memory.NoMemory.{NoMemory}
 use Rattle.moving_tube.specs.Hulls.{hull_of, HullLies}
 use Rattle.moving_tube.specs.Roots.{kept_with, kept_of}
 use Rattle.moving_tube.proofs.KeptLemmas.{few_kept}
+use Rattle.moving_tube.proofs.RootLemmas.{hull_through}
 use Rattle.paving_log.specs.CoverBoxes.{cover_of}
-use Rattle.range_contractor.proofs.BoxLemmas.{lies_through}
 use Rattle.rinex_obs.specs.declared.obs.ObsEpoch.{ObsEpoch}
 use Rattle.sat_model.specs.Contractors.{LiesIn}
 use Rattle.sat_model.specs.Logs.{Body, Block}
@@ -48,7 +48,7 @@ module _ {X : Type 0} (seen : X → ObsEpoch) (root : X → GridBox) (old new : 
   pub walk_part : (found : Option X) → Found found
       → IfSome found (λ x. (part : GridBox) → LiesIn part (root x) → LiesIn part new.search)
   walk_part None m = tt
-  walk_part (Some x) m = λ part lies. lies_through part (root x) new.search lies (rw m.same_search m.lies)
+  walk_part (Some x) m = λ part lies. hull_through (Some part) (root x) new.search lies (rw m.same_search m.lies)
 
   pub walk_nothing : (found : Option X) → IfSome found (λ x. Unit {0})
   walk_nothing None = tt
