@@ -5,7 +5,7 @@ use Rattle.range_contractor.proofs.BoxLemmas.{box_lies}
 use Rattle.epoch_selection.specs.Searches.{Search, search_in}
 use Rattle.log_writer.proofs.LogLemmas.{same_few}
 use Rattle.log_writer.specs.Kept.{hull_kept, hull_of_last}
-use Rattle.log_writer.specs.Pavings.{HasRun, Paves}
+use Rattle.log_writer.specs.Pavings.{BodyExtends, HasRun, Paves}
 use Rattle.log_writer.specs.Sources.{Came}
 use Rattle.log_writer.specs.Texts.{IsWhole}
 use Rattle.moving_tube.specs.Hulls.{HullLies}
@@ -65,16 +65,22 @@ module _ (m : Meaning) (renews : Bool) (rules : Rules) where
     abbrev here : Search
     here = search_in (grid_box gave.root) gave.epoch
 
+    abbrev maker : Maker
+    maker = maker_of m renews (Some (hand_of here given))
+
     solved : IsSolved m renews rules here block
     solved = made_of Paves left hull given block next gave paves
+
+    extends : BodyExtends (HasRun maker rules) block given.body block.body
+    extends = (subst (λ (hand : Option Hand). Paves (maker_of m renews hand) rules given block) gave.hand paves).body
 
     -- the hull of its boxes lies in its root
     pub next_kept : IsKept next.last (hull_kept block.body)
     next_kept =
         let root = grid_box gave.root in
-        let few = same_few (HasRun (maker_of m renews (Some (hand_of here given))) rules) block given.body block.body solved.made.body in
-        let lies = told_lies (maker_of m renews (Some (hand_of here given))) rules block (suits_rows m renews here given block.sats paves.sats) root given.body (box_lies gave.root)
-            (given_root m.delays root gave.grown.own given.sats given.body gave.grown.body) solved.made.body in
+        let few = same_few (HasRun maker rules) block given.body block.body extends in
+        let lies = told_lies maker rules block (suits_rows m renews here given block.sats paves.sats) root given.body (box_lies gave.root)
+            (given_root m.delays root gave.grown.own given.sats given.body gave.grown.body) extends in
         subst (λ (l : Option Last). IsKept l (hull_kept block.body)) (sym gave.last)
         (subst (λ (f : Bool). HullLies (kept_told f root (hull_kept block.body)) root) few lies)
 
@@ -82,7 +88,7 @@ module _ (m : Meaning) (renews : Bool) (rules : Rules) where
       pub next_searches : (blocks : List Block)
           → left.searches hull (block ∷ blocks) ≡ here ∷ next.searches (hull_kept block.body) blocks
       next_searches blocks =
-          (gave.is_first kept).goes_on block blocks (same_few (HasRun (maker_of m renews (Some (hand_of here given))) rules) block given.body block.body solved.made.body)
+          (gave.is_first kept).goes_on block blocks (same_few (HasRun maker rules) block given.body block.body extends)
 
       more_came : (blocks : List Block) → CameOf next (hull_kept block.body) blocks
           → CameOf left hull (block ∷ blocks)

@@ -5,6 +5,7 @@ ghost use Rattle.epoch_rows.specs.EpochsLeft.{left_in, left_of, index_of};
 ghost use Rattle.epoch_rows.specs.Laws.{sat_in_place};
 ghost use Rattle.epoch_rows.specs.Makers.{GivesAny};
 ghost use Rattle.epoch_rows.specs.Ready.{SkipsFit, AreWritable, CanGive, CanGoOn};
+ghost use Rattle.epoch_rows.specs.Ready.{GoesByHull};
 ghost use Rattle.grid_model.specs.Boxes.{grid_box};
 
 use crate::blocks::block;
@@ -57,6 +58,7 @@ impl<'a, S: RowSource, W: HullWalk<'a>> ObsBlocks<'a, S, W> {
         ensures can { CanGive (S.meaning result.source.now) (index_of result.given)
             (W.epochs result.walk) }
         ensures goes_on { CanGoOn (W.ready result.walk) (W.may_keep result.walk) result.given }
+        ensures told { GoesByHull W.keeps W.behind }
     {
         ObsBlocks {
             source,
@@ -114,7 +116,8 @@ impl<'a, S: RowSource, W: HullWalk<'a>> Blocks for ObsBlocks<'a, S, W> {
 
     ghost ready = { λ blocks.
         CanGive (S.meaning blocks.source.now) (index_of blocks.given) (W.epochs blocks.walk)
-        × CanGoOn (W.ready blocks.walk) (W.may_keep blocks.walk) blocks.given };
+        × CanGoOn (W.ready blocks.walk) (W.may_keep blocks.walk) blocks.given
+        × GoesByHull W.keeps W.behind };
 
     fn next(&mut self, alloc: Global, kept: Option<Box3>) -> Result<Option<LogEpoch>, NoMemory> {
         let mut walk = walk_behind(self.walk, self.given, kept);

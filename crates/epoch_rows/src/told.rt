@@ -24,9 +24,9 @@ fn part_of(given: &Given<'_>, kept: Option<Box3>) -> Option<Box3>
 pub fn walk_behind<'a, W: Walk<'a>>(walk: W, given: Option<Given<'a>>, kept: Option<Box3>) -> W
     ensures epochs { W.epochs result ≡ W.epochs walk }
     ensures searches { (blocks : List Block) → W.searches result blocks
-        ≡ searches_behind (W.searches walk) (W.behind walk) given (box_option kept) blocks }
-    ensures ready { CanGoOn (W.ready walk) (W.may_keep walk) given
-        → IsKept (given_value given) (box_option kept) → W.ready result }
+        ≡ searches_behind (W.searches walk) (W.behind walk) given.entry (box_option kept) blocks }
+    ensures ready { CanGoOn (W.ready walk) (W.may_keep walk) given.entry
+        → IsKept (given_value given.entry) (box_option kept) → W.ready result }
 {
     match given {
         None => walk,
@@ -40,7 +40,7 @@ pub fn walk_behind<'a, W: Walk<'a>>(walk: W, given: Option<Given<'a>>, kept: Opt
 
 /// The number of the block before, where it kept no box and hasn't few satellites.
 pub fn lost_at(given: Option<Given<'_>>, kept: Option<Box3>) -> Option<u32>
-    ensures { result ≡ lost_of (given_value given) (box_option kept) }
+    ensures { result ≡ lost_of (given_value given.entry) (box_option kept) }
 {
     let given = given?;
     match kept {

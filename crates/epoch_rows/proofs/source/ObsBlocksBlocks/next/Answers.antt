@@ -27,6 +27,7 @@ returns-clause-ready g c =
     let first = sym c.walk_behind-walk.ensures.epochs ∙ taken.epochs in (
       rest_ready (g.S.RowSource.meaning blocks.source.now) (index_of blocks.given) _ _ c.in-Some.epoch.now first c.requires.0,
       keeps_part (g.W.Walk.may_keep c.next.new.self) (grid_box c.in-Some.root) taken.part taken.nothing,
+      c.requires.2,
     )
 
 pub returns-clause-gives : goal.returns-clause-gives
@@ -48,7 +49,7 @@ returns-clause-gives g c =
           root = c.in-Some.root;
           first = sym told.epochs ∙ taken.epochs;
           box = taken.sized;
-          is_first = λ kept. comes_first g.W.Walk.keeps (g.W.Walk.behind walk) (g.met.W.HullWalk.goes_on walk)
+          is_first = λ kept. comes_first g.W.Walk.keeps (g.W.Walk.behind walk) (c.requires.2 walk)
               (g.W.Walk.searches c.walk_behind-walk.result) (searches_behind (g.W.Walk.searches blocks.walk) (g.W.Walk.behind blocks.walk) blocks.given (box_option c.args.kept))
               told.searches epoch root _ _ c.is_few.ensures (taken.first (told.ready c.requires.1 kept));
           grown = c.in_ok-next.ensures.grown;
