@@ -1,21 +1,18 @@
 -- The log that `solve` writes, against the files.
-use Rattle.std.proofs.Common.{◌≡◌, ℕ, Bool, List, Ok, Err, subst}
+use Rattle.std.proofs.Common.{◌≡◌, ℕ, Bool, List, Ok, Err, refl, subst}
 use Rattle.sharpness_laws.proofs.LogLemmas.{begun_clear, whole_clear}
 use Rattle.sharpness_laws.specs.UsableRows.{AllDistinctIf}
 use Rattle.epoch_rows.proofs.CameLemmas.{whole_admits, whole_covers}
-use Rattle.epoch_rows.specs.EpochsLeft.{EpochsLeft, left_in, source_of}
+use Rattle.epoch_rows.specs.EpochsLeft.{EpochsLeft, source_of}
 use Rattle.epoch_selection.specs.declared.selection.Selection.{Selection}
 use Rattle.input_files.specs.declared.inputs.Inputs.{Inputs}
 use Rattle.log_writer.specs.Texts.{IsText}
-use Rattle.grid_model.specs.Boxes.{grid_box}
-use Rattle.grid_model.specs.SearchBoxes.{IsSearchBox}
-use Rattle.grid_model.specs.declared.boxes.Box3.{Box3}
+use Rattle.grid_model.specs.Boxes.{GridBox}
 use Rattle.sat_model.specs.declared.rules.Rules.{Rules}
 use Rattle.sat_rows.specs.Laws.{both_sound}
 use Rattle.sat_rows.specs.Meanings.{Meaning}
-use Rattle.cover_run.specs.Solving.{IsRootOf, IsSolution, epoch_source, epochs_of, meaning_of}
+use Rattle.cover_run.specs.Solving.{IsRootOf, IsSolution, epoch_source, epochs_of, meaning_of, standing}
 use Rattle.cover_run.specs.Writing.{Answer}
-use Rattle.grid_model.proofs.PointLemmas.{low_corner as has_corner}
 
 -- by a source, rules and a key that are known
 pub text_known : (m n : Meaning) (given rules : Rules) (asked renews : Bool)
@@ -35,33 +32,30 @@ text_known m n given rules asked renews first here last limit answer bytes said 
 
 -- its text is that of a log that all own lines admit, that covers what fits, and that leaves nothing
 -- clear
-pub solution_of : (chosen : Selection) (i : Inputs) (root : Box3) (last : EpochsLeft) (limit : ℕ)
-    (answer : Answer) (bytes said : List ℕ) → IsRootOf i (grid_box root) → IsSearchBox (grid_box root)
+pub solution_of : (chosen : Selection) (i : Inputs) (root : GridBox) (last : EpochsLeft) (limit : ℕ)
+    (answer : Answer) (bytes said : List ℕ) → IsRootOf i root
     → AllDistinctIf i.settings.renew (epochs_of chosen i)
-    → IsText (epoch_source i) i.settings.rules (left_in (grid_box root) (epochs_of chosen i)) last limit
-    answer bytes said
+    → IsText (epoch_source i) i.settings.rules (standing chosen i root) last limit answer bytes said
     → IsSolution chosen i limit answer bytes said
-solution_of chosen i root last limit (Ok done) bytes said is_root box distinct text =
+solution_of chosen i root last limit (Ok done) bytes said is_root distinct text =
     let m = meaning_of i in
     let rules = i.settings.rules in
     let renews = i.settings.renew in
     let sound = both_sound i.nav i.settings in
-    let left = left_in (grid_box root) (epochs_of chosen i) in
-    let inside = has_corner root in
+    let left = standing chosen i root in
     record {
-      root = grid_box root;
+      root = root;
       is_root = is_root;
       last = last;
       whole = text;
-      admits = whole_admits m sound renews rules left last box root.lo inside limit bytes said text;
-      cover = whole_covers m sound renews rules left last box root.lo inside limit bytes said text;
-      nothing_clear = whole_clear m sound renews rules root box (epochs_of chosen i) distinct limit
-          bytes said last text;
+      admits = whole_admits m sound renews rules left last refl limit bytes said text;
+      cover = whole_covers m sound renews rules left last refl limit bytes said text;
+      nothing_clear = whole_clear m sound renews rules left refl distinct limit bytes said last text;
     }
-solution_of chosen i root last limit (Err fault) bytes said is_root box distinct text = record {
-  root = grid_box root;
+solution_of chosen i root last limit (Err fault) bytes said is_root distinct text = record {
+  root = root;
   is_root = is_root;
   begun = text;
   nothing_clear = begun_clear (meaning_of i) (both_sound i.nav i.settings) i.settings.renew
-      i.settings.rules root box (epochs_of chosen i) distinct limit bytes said fault text;
+      i.settings.rules (standing chosen i root) refl distinct limit bytes said fault text;
 }

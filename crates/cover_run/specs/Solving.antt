@@ -44,6 +44,11 @@ module _ (i : Inputs) where
   abbrev pub IsRootOf : GridBox → Type 0
   IsRootOf root = IsRoot (centre_with i.obs.position i.settings.centre) i.settings.half root
 
+-- before the first of the chosen epochs, all of which are searched in this box
+abbrev pub standing : Selection → Inputs → GridBox → EpochsLeft
+standing chosen i root =
+    left_in (epochs_of chosen i) (λ blocks. searches_in root (epochs_of chosen i))
+
 module _ (chosen : Selection) (i : Inputs) where
   -- The text of one log and its report, within the limit: each epoch's block has own lines, whose
   -- rows are wider by W at both ends, and by G at those of the ends of the error, over the search
@@ -56,8 +61,8 @@ module _ (chosen : Selection) (i : Inputs) where
     pub root : GridBox
     pub is_root : IsRootOf i root
     pub last : EpochsLeft
-    pub whole : IsWhole (epoch_source i) i.settings.rules (left_in root (epochs_of chosen i)) last
-        limit bytes said
+    pub whole : IsWhole (epoch_source i) i.settings.rules (standing chosen i root) last limit bytes
+        said
     pub admits : (owns : List OwnLines)
         → AreOwn (meaning_of i) (searches_in root (epochs_of chosen i)) whole.log.blocks owns
         → Admits i.settings.delays (searches_in root (epochs_of chosen i)) owns i.settings.rules
@@ -72,7 +77,7 @@ module _ (chosen : Selection) (i : Inputs) where
     pub root : GridBox
     pub is_root : IsRootOf i root
     pub begun : IsBegun fault (epoch_source i) i.settings.rules
-        (left_in root (epochs_of chosen i)) limit bytes said
+        (standing chosen i root) limit bytes said
     pub nothing_clear : BlocksLeaveNothingClear (meaning_of i) i.settings.renew i.settings.rules
         (searches_in root (epochs_of chosen i)) begun.blocks begun.hand
 

@@ -17,16 +17,16 @@ use crate::Verdict;
 use crate::checked::{Checked, read_checked};
 use crate::chosen::chosen_in;
 use crate::telling::say;
-use crate::tracking::declared_speed;
+use crate::tracking::declared_tube;
 use crate::verdicts::tell_verdict;
 use command_words::Files;
-use epoch_selection::{Searches, Selection};
+use epoch_selection::Selection;
 use galileo_rows::BothRows;
 use grid_model::NoMemory;
 use input_files::{Limits, Status};
 use outer_io::{Shelf, Sink};
 use std::alloc::Global;
-use tube_searches::{Tube, check_tube};
+use tube_searches::check_tube;
 
 /// The verdict on the log against these epochs of the files, each over the root that the one before
 /// leaves.
@@ -44,15 +44,7 @@ pub fn track_verdict(alloc: Global, found: &Checked, chosen: Selection) -> Resul
         nav: &inputs.nav,
         settings,
     };
-    let tube = Tube {
-        searches: Searches {
-            left: &inputs.obs.epochs,
-            selection: chosen,
-            root: settings.root(inputs.obs.position),
-        },
-        speed: declared_speed(inputs),
-        before: None,
-    };
+    let tube = declared_tube(inputs, chosen);
     check_tube(alloc, &source, &tube, &settings.rules, &found.log)
 }
 

@@ -12,7 +12,7 @@ use crate::telling::say;
 use crate::writing::write_named;
 use command_words::Files;
 use epoch_rows::ObsBlocks;
-use epoch_selection::Selection;
+use epoch_selection::{Searches, Selection};
 use galileo_rows::BothRows;
 use input_files::{Inputs, Limits, Status, read_inputs};
 use outer_io::{Shelf, Sink};
@@ -37,20 +37,16 @@ pub fn write_solution<H: Shelf, O: Sink, E: Sink>(
         (trust_of (H.reliable shelf.new) (O.reliable out.new)) result }
 {
     let settings = &inputs.settings;
-    let root = settings.root(inputs.obs.position);
     let source = BothRows {
         nav: &inputs.nav,
         settings,
     };
-    let mut blocks = ObsBlocks::of_file(
-        alloc,
-        &source,
-        &inputs.obs,
-        chosen,
-        &root,
-        &settings.rules,
-        settings.renew,
-    );
+    let searches = Searches {
+        left: &inputs.obs.epochs,
+        selection: chosen,
+        root: settings.root(inputs.obs.position),
+    };
+    let mut blocks = ObsBlocks::of_walk(alloc, &source, searches, &settings.rules, settings.renew);
     write_named(
         alloc,
         limits,
