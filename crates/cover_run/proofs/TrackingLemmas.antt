@@ -7,9 +7,9 @@ use Rattle.sharpness_laws.specs.UsableRows.{AllDistinctIf}
 use Rattle.grid_model.specs.Boxes.{GridBox}
 use Rattle.grid_model.specs.Hulls.{joined_box}
 use Rattle.epoch_rows.proofs.CameLemmas.{whole_accepted, whole_admits, whole_covers}
+use Rattle.epoch_rows.proofs.HullLemmas.{hull_told}
 use Rattle.epoch_rows.specs.EpochsLeft as left
 use Rattle.epoch_rows.specs.EpochsLeft.{Last, EpochsLeft, GivesNext, lost_of, source_of}
-use Rattle.epoch_rows.specs.Laws.{hull_told}
 use Rattle.epoch_selection.specs.declared.selection.Selection.{Selection}
 use Rattle.input_files.specs.declared.notice.Notice.TheVariants as notice
 use Rattle.input_files.specs.declared.status.Status.{Status}

@@ -1,5 +1,5 @@
 -- A log of what came from the epochs of a file, against the files.
-use Rattle.std.proofs.Common.{◌≡◌, ℕ, Bool, List, [], ◌∷◌, map, refl, sym, ap, subst, ◌∙◌, Option, None, Some}
+use Rattle.std.proofs.Common.{◌≡◌, ℕ, Bool, List, [], ◌∷◌, map, refl, sym, subst, Option, None, Some}
 use Rattle.std.specs.Prelude.{slice_get}
 use Rattle.range_contractor.proofs.BoxLemmas.{box_lies}
 use Rattle.epoch_selection.specs.Searches.{Search, search_in}
@@ -80,7 +80,7 @@ module _ (m : Meaning) (renews : Bool) (rules : Rules) where
         let root = grid_box gave.root in
         let few = same_few (HasRun maker rules) block given.body block.body extends in
         let lies = told_lies maker rules block (suits_rows m renews here given block.sats paves.sats) root given.body (box_lies gave.root)
-            (given_root m.delays root gave.grown.own given.sats given.body gave.grown.body) extends in
+        (given_root m.delays root gave.grown.own given.sats given.body gave.grown.body) extends in
         subst (λ (l : Option Last). IsKept l (hull_kept block.body)) (sym gave.last)
         (subst (λ (f : Bool). HullLies (kept_told f root (hull_kept block.body)) root) few lies)
 

@@ -1,6 +1,6 @@
 -- The next block of a file's epochs.
 use Rattle.std.proofs.Common.{◌≡◌, ℕ, Bool, List, [], ◌∷◌, length, map, refl, sym, ap, subst, ◌∙◌, arith}
-use Rattle.std.specs.Prelude.{ℤ, Option, None, Some, option_map}
+use Rattle.std.specs.Prelude.{ℤ, Option, None, Some}
 use Rattle.epoch_selection.specs.Searches.{Search, search_in}
 use Rattle.epoch_selection.specs.Walks.{IsFirst}
 use Rattle.log_writer.specs.Kept.{hull_kept}

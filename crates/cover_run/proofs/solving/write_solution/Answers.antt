@@ -1,9 +1,10 @@
-use Rattle.std.proofs.Common.{[], List, length, ap, subst, ◌∙◌}
+use Rattle.std.proofs.Common.{[], List, None, length, ap, rules, subst, sym, ◌∙◌}
 use Rattle.sharpness_laws.proofs.LogLemmas.{writable_distinct}
 use Rattle.sharpness_laws.specs.UsableRows.{AllDistinctIf}
 use Rattle.epoch_rows.proofs.KeptLemmas.{text_of_epochs}
 use Rattle.epoch_rows.proofs.ReadyLemmas.{selected_writable}
 use Rattle.epoch_rows.specs.EpochsLeft.{EpochsLeft, index_of, left_in, left_of}
+use Rattle.epoch_rows.specs.Ready.{AreWritable}
 use Rattle.epoch_selection.specs.Searches.{epochs_left, searches_in, searches_left}
 use Rattle.epoch_selection.specs.Selections.{selected}
 use Rattle.grid_model.specs.Boxes.{grid_box}
@@ -16,11 +17,14 @@ use Rattle.cover_run.proofs.WritingLemmas.{writes_as}
 use Rattle.cover_run.specs.Solving.{IsSolution, meaning_of}
 use Rattle.cover_run.proofs.solving.write_solution.Goals as goal
 
-pub of_walk-blocks-requires-clause-writable : goal.of_walk-blocks-requires-clause-writable
-of_walk-blocks-requires-clause-writable g c =
+pub of_walk-blocks-requires : goal.of_walk-blocks-requires
+of_walk-blocks-requires g c =
     let usual = c.requires.usual in
-    rw c.deref.ensures.value (selected_writable c.args.chosen c.args.inputs.now.obs.epochs.items
-    usual.rising usual.distinct usual.named)
+    let writable = subst (λ (epochs : List ObsEpoch). AreWritable None
+    (selected c.args.chosen epochs)) (sym c.deref.ensures.value)
+    (selected_writable c.args.chosen c.args.inputs.now.obs.epochs.items usual.rising usual.distinct
+    usual.named) in
+    search rules
 
 pub returns : goal.returns
 returns g c =

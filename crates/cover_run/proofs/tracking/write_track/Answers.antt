@@ -21,17 +21,15 @@ use Rattle.cover_run.specs.Solving.{meaning_of}
 use Rattle.cover_run.specs.Tracking.{IsTrack, moving}
 use Rattle.cover_run.proofs.tracking.write_track.Goals as goal
 
-pub of_walk-blocks-requires-clause-writable : goal.of_walk-blocks-requires-clause-writable
-of_walk-blocks-requires-clause-writable g c =
+pub of_walk-blocks-requires : goal.of_walk-blocks-requires
+of_walk-blocks-requires g c =
     let usual = c.requires.enough.usual in
-    subst (λ (epochs : List ObsEpoch). AreWritable None epochs)
-    (ap (λ (t : TubeValue). t.epochs) (sym c.declared_tube-tube.ensures.value))
+    let is = sym c.declared_tube-tube.ensures.value in
+    let writable = subst (λ (t : TubeValue). AreWritable None t.epochs) is
     (selected_writable c.args.chosen c.args.inputs.now.obs.epochs.items usual.rising usual.distinct
-    usual.named)
-
-pub of_walk-blocks-requires-clause-ready : goal.of_walk-blocks-requires-clause-ready
-of_walk-blocks-requires-clause-ready g c =
-    subst (λ (t : TubeValue). IsInside t) (sym c.declared_tube-tube.ensures.value) tt
+    usual.named) in
+    let inside = subst (λ (t : TubeValue). IsInside t) is tt in
+    search rules
 
 pub returns-then-eq : goal.returns-then-eq
 returns-then-eq g c =

@@ -1,9 +1,7 @@
 use Rattle.std.proofs.Common.{Option, ap, subst, sym, ◌∙◌}
 use Rattle.grid_model.specs.Boxes.{GridBox, grid_box}
 use Rattle.moving_tube.specs.Hulls.{HullLies}
-use Rattle.subpaving.specs.LiveValues.{box_option}
 use Rattle.tube_searches.proofs.WalkLemmas.{same_option}
-use Rattle.epoch_rows.specs.EpochsLeft.{kept_told}
 use Rattle.epoch_rows.proofs.told.walk_behind.Goals as goal
 
 pub returns-in-Some-clause-searches : goal.returns-in-Some-clause-searches
