@@ -1,21 +1,41 @@
 -- The log that `solve` writes, against the files.
-use Rattle.std.proofs.Common.{◌≡◌, ℕ, Bool, List, Ok, Err, subst}
+use Rattle.std.proofs.Common.{◌≡◌, ℕ, Bool, List, Option, None, Some, Ok, Err, refl, subst}
+use Rattle.std.specs.Prelude.{option_map}
 use Rattle.sharpness_laws.proofs.LogLemmas.{begun_clear, whole_clear}
 use Rattle.sharpness_laws.specs.UsableRows.{AllDistinctIf}
 use Rattle.epoch_rows.proofs.CameLemmas.{whole_admits, whole_covers}
 use Rattle.epoch_rows.specs.EpochsLeft.{EpochsLeft, left_in, source_of}
+use Rattle.epoch_selection.specs.Searches.{searches_in}
 use Rattle.epoch_selection.specs.declared.selection.Selection.{Selection}
+use Rattle.error_bounds.specs.declared.settings.Settings.{Settings}
+use Rattle.gnss_model.specs.declared.delays.Delays.{Delays}
 use Rattle.input_files.specs.declared.inputs.Inputs.{Inputs}
 use Rattle.log_writer.specs.Texts.{IsText}
 use Rattle.grid_model.specs.Boxes.{grid_box}
 use Rattle.grid_model.specs.SearchBoxes.{IsSearchBox}
 use Rattle.grid_model.specs.declared.boxes.Box3.{Box3}
 use Rattle.sat_model.specs.declared.rules.Rules.{Rules}
-use Rattle.sat_rows.specs.Laws.{both_sound}
-use Rattle.sat_rows.specs.Meanings.{Meaning}
-use Rattle.cover_run.specs.Solving.{IsRootOf, IsSolution, epoch_source, epochs_of, meaning_of}
+use Rattle.rinex_nav.specs.declared.record.NavRecord.{NavRecord}
+use Rattle.sat_rows.specs.Meanings.{IsSound, Meaning}
+use Rattle.station_epochs.specs.Stations.{Station}
+use Rattle.station_rows.specs.Laws.{rows_sound}
+use Rattle.station_rows.specs.Stations.{rows_meaning}
+use Rattle.paving_log_check.specs.Admissible.{Admits}
+use Rattle.cover_run.specs.Solving.{IsRootOf, IsSolution, epoch_source, epochs_of, meaning_of, station_in}
 use Rattle.cover_run.specs.Writing.{Answer}
 use Rattle.grid_model.proofs.PointLemmas.{low_corner as has_corner}
+
+-- what the files say keeps the laws of a source, and its delays are those of the settings
+pub files_sound : (i : Inputs) → IsSound (meaning_of i)
+files_sound i = rows_sound i.nav i.settings (option_map station_in i.station)
+
+rows_delays : (records : List NavRecord) (settings : Settings) (station : Option Station)
+    → (rows_meaning records settings station).delays ≡ settings.delays
+rows_delays records settings None = refl
+rows_delays records settings (Some station) = refl
+
+pub files_delays : (i : Inputs) → (meaning_of i).delays ≡ i.settings.delays
+files_delays i = rows_delays i.nav i.settings (option_map station_in i.station)
 
 -- by a source, rules and a key that are known
 pub text_known : (m n : Meaning) (given rules : Rules) (asked renews : Bool)
@@ -45,7 +65,7 @@ solution_of chosen i root last limit (Ok done) bytes said is_root box distinct t
     let m = meaning_of i in
     let rules = i.settings.rules in
     let renews = i.settings.renew in
-    let sound = both_sound i.nav i.settings in
+    let sound = files_sound i in
     let left = left_in (grid_box root) (epochs_of chosen i) in
     let inside = has_corner root in
     record {
@@ -53,7 +73,10 @@ solution_of chosen i root last limit (Ok done) bytes said is_root box distinct t
       is_root = is_root;
       last = last;
       whole = text;
-      admits = whole_admits m sound renews rules left last box root.lo inside limit bytes said text;
+      admits = λ owns are. subst (λ (delays : Delays).
+          Admits delays (searches_in (grid_box root) (epochs_of chosen i)) owns rules text.log)
+          (files_delays i)
+          (whole_admits m sound renews rules left last box root.lo inside limit bytes said text owns are);
       cover = whole_covers m sound renews rules left last box root.lo inside limit bytes said text;
       nothing_clear = whole_clear m sound renews rules root box (epochs_of chosen i) distinct limit
           bytes said last text;
@@ -62,6 +85,6 @@ solution_of chosen i root last limit (Err fault) bytes said is_root box distinct
   root = grid_box root;
   is_root = is_root;
   begun = text;
-  nothing_clear = begun_clear (meaning_of i) (both_sound i.nav i.settings) i.settings.renew
+  nothing_clear = begun_clear (meaning_of i) (files_sound i) i.settings.renew
       i.settings.rules root box (epochs_of chosen i) distinct limit bytes said fault text;
 }

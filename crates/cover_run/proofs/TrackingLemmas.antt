@@ -4,6 +4,7 @@ use Rattle.std.proofs.Common.{Option, None, Some, Ok, Err, inl, inr, refl, sym, 
 use Rattle.std.specs.Option.{option_map}
 use Rattle.std.specs.Prelude.{is_none}
 use Rattle.sharpness_laws.specs.UsableRows.{AllDistinctIf}
+use Rattle.gnss_model.specs.declared.delays.Delays.{Delays}
 use Rattle.grid_model.specs.Boxes.{GridBox}
 use Rattle.grid_model.specs.Hulls.{joined_box}
 use Rattle.epoch_selection.specs.declared.selection.Selection.{Selection}
@@ -26,18 +27,20 @@ use Rattle.moving_tube.specs.Hulls.{hull_behind, hull_of}
 use Rattle.outer_io.specs.Causes.{Rose}
 use Rattle.outer_io.specs.Taken.{SinkState, SinkTold, TakenBy, taking}
 use Rattle.paving_log.specs.CoverBoxes.{cover_of}
+use Rattle.paving_log_check.specs.Admissible.{Admits}
 use Rattle.sat_model.specs.Logs.{Body, Block, LogValue, is_few}
 use Rattle.sat_model.specs.declared.rules.Rules.{Rules}
-use Rattle.sat_rows.specs.Laws.{both_sound}
 use Rattle.sat_rows.specs.Meanings.{Meaning}
 use Rattle.tube_rows.proofs.HullLemmas.{hull_told}
 use Rattle.tube_rows.specs.TubeLeft as left
 use Rattle.tube_rows.proofs.CameLemmas.{came_clear, whole_admits, whole_clear, whole_covers, whole_found}
 use Rattle.tube_rows.specs.TubeLeft.{Last, TubeLeft, left_in, lost_of, of_tube, source_of}
+use Rattle.tube_searches.specs.Tubes.{tube_searches}
 use Rattle.input_files.specs.declared.inputs.Inputs.{Inputs}
+use Rattle.cover_run.proofs.SolvingLemmas.{files_delays, files_sound}
 use Rattle.cover_run.specs.Solving.{epochs_of, meaning_of}
 use Rattle.cover_run.specs.Telling.{Sinks, sinks}
-use Rattle.cover_run.specs.Tracking.{IsTrack, IsTrackText, IsTubeOf, TellsLost, lost_behind, lost_in, lost_line, lost_pieces, lost_text, lost_with, tube_source}
+use Rattle.cover_run.specs.Tracking.{IsTrack, IsTrackText, IsTubeOf, TellsLost, lost_behind, lost_in, lost_line, lost_pieces, lost_text, lost_with, tube_of, tube_source}
 use Rattle.cover_run.specs.Worlds.{World, Says, world}
 use Rattle.cover_run.specs.Writing.{Answer, SaysEnd, Writes, WritesLog, status_of_writing}
 
@@ -312,7 +315,7 @@ pub track_of : (chosen : Selection) (i : Inputs) (search : GridBox) (speed : ℕ
     → IsTrack chosen i limit answer bytes said
 track_of chosen i search speed last limit (Ok done) bytes said is_tube distinct track =
     let m = meaning_of i in
-    let sound = both_sound i.nav i.settings in
+    let sound = files_sound i in
     let rules = i.settings.rules in
     let here = left_in search speed (epochs_of chosen i) in
     let w = track.whole in
@@ -322,7 +325,9 @@ track_of chosen i search speed last limit (Ok done) bytes said is_tube distinct 
       is_tube = is_tube;
       last = last;
       track = track;
-      admits = whole_admits m sound i.settings.renew rules here last refl limit bytes track.report w;
+      admits = λ owns are. subst (λ (delays : Delays).
+          Admits delays (tube_searches (tube_of chosen i search speed) w.log.blocks) owns rules w.log)
+          (files_delays i) (whole_admits m sound i.settings.renew rules here last refl limit bytes track.report w owns are);
       cover = whole_covers m sound i.settings.renew rules here last refl limit bytes track.report w;
       nothing_clear = whole_clear m sound i.settings.renew rules here last refl limit bytes track.report w distinct;
       found = whole_found m sound i.settings.renew rules here last refl limit bytes track.report w;
@@ -335,5 +340,5 @@ track_of chosen i search speed last limit (Err fault) bytes said is_tube distinc
       is_tube = is_tube;
       last = last;
       begun = begun;
-      nothing_clear = came_clear (meaning_of i) i.settings.renew i.settings.rules (both_sound i.nav i.settings) here None begun.blocks begun.behind begun.hand tt distinct begun.came begun.in_hand;
+      nothing_clear = came_clear (meaning_of i) i.settings.renew i.settings.rules (files_sound i) here None begun.blocks begun.behind begun.hand tt distinct begun.came begun.in_hand;
     }

@@ -12,12 +12,12 @@ ghost use Rattle.log_writer.specs.Writing.{trust_of};
 ghost use Rattle.moving_tube.specs.Reach.{fastest};
 
 use crate::chosen::chosen_in;
+use crate::file_rows::rows_of;
 use crate::telling::{say, tell};
 use crate::texts::Line;
 use crate::writing::write_named;
 use command_words::Files;
 use epoch_selection::Selection;
-use galileo_rows::BothRows;
 use input_files::{Inputs, Limits, Status, read_inputs, speed_of};
 use itoa::Buffer;
 use outer_io::{Shelf, Sink};
@@ -83,10 +83,7 @@ fn write_track<H: Shelf, O: Sink, E: Sink>(
     let rules = &settings.rules;
     let search = settings.root(inputs.obs.position);
     let speed = declared_speed(inputs);
-    let source = BothRows {
-        nav: &inputs.nav,
-        settings,
-    };
+    let source = rows_of(inputs);
     let mut blocks = TubeBlocks::of_file(
         alloc,
         &source,

@@ -10,4 +10,4 @@ returns-clause-yes c =
       search = c.root.ensures.value;
       speed = c.declared_speed.ensures.speed;
     } in
-    track_yes c.args.chosen f _ _ is_tube _ told.yes
+    track_yes c.args.chosen f _ _ is_tube _ (rw c.rows_of-source.ensures at told.yes)

@@ -1,4 +1,5 @@
-use Rattle.std.proofs.Common.{[], List, length, ap, subst}
+use Rattle.std.proofs.Common.{[], List, length, ap, subst, ◌∙◌}
+use Rattle.std.specs.Option.{option_map}
 use Rattle.sharpness_laws.proofs.LogLemmas.{writable_distinct}
 use Rattle.sharpness_laws.specs.UsableRows.{AllDistinctIf}
 use Rattle.epoch_rows.proofs.KeptLemmas.{text_of_epochs}
@@ -6,8 +7,9 @@ use Rattle.epoch_rows.specs.EpochsLeft.{EpochsLeft, left_of}
 use Rattle.epoch_selection.specs.Searches.{epochs_left}
 use Rattle.log_writer.specs.Sizes.{most_bytes}
 use Rattle.rinex_obs.specs.declared.obs.ObsEpoch.{ObsEpoch}
-use Rattle.sat_rows.specs.Sources.{both_meaning}
-use Rattle.galileo_rows.specs.declared.both.BothRows.{BothRows}
+use Rattle.station_epochs.specs.Stations.{station_of}
+use Rattle.station_rows.specs.Stations.{rows_meaning}
+use Rattle.station_rows.specs.declared.sources.FileRows.{FileRows}
 use Rattle.cover_run.proofs.SolvingLemmas.{solution_of, text_known}
 use Rattle.cover_run.proofs.WritingLemmas.{writes_as}
 use Rattle.cover_run.specs.Solving.{IsSolution, meaning_of}
@@ -22,7 +24,7 @@ returns g c =
     let b = c.of_file-blocks.result in
     let chosen = c.args.chosen in
     let last = c.write_named.new.blocks in
-    let meaning = λ (s : BothRows). both_meaning s.nav.now s.settings.now in
+    let meaning = λ (s : FileRows). rows_meaning s.nav.now s.settings.now (option_map station_of s.station) in
     let renews = i.settings.renew in
     let distinct = subst (λ (epochs : List ObsEpoch). AllDistinctIf renews epochs)
     (ap (λ (left : EpochsLeft). left.epochs) made.left)
@@ -31,7 +33,7 @@ returns g c =
     (λ answer bytes said text. solution_of chosen i c.root-root.result (left_of last.searches) limit
     answer bytes said c.root-root.ensures.value c.root-root.ensures.search_box distinct
     (text_known (meaning_of i) (meaning b.source.now) b.rules rules b.maker.renews renews
-    (left_of b.searches) _ (left_of last.searches) limit answer bytes said (ap meaning made.source)
+    (left_of b.searches) _ (left_of last.searches) limit answer bytes said (ap meaning made.source ∙ c.rows_of-source.ensures)
     made.rules made.renews made.left
     (text_of_epochs (λ x. x.source.now) (λ x. x.rules) (λ x. x.searches) (λ x. x.maker) meaning b
     last rules limit answer bytes said text)))

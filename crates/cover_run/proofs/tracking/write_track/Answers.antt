@@ -1,13 +1,15 @@
-use Rattle.std.proofs.Common.{◌≡◌, ◌≢◌, [], List, ap, length, refl, rules, subst}
+use Rattle.std.proofs.Common.{◌≡◌, ◌≢◌, [], List, ap, length, refl, rules, subst, ◌∙◌}
+use Rattle.std.specs.Option.{option_map}
 use Rattle.sharpness_laws.proofs.LogLemmas.{writable_distinct}
 use Rattle.sharpness_laws.specs.UsableRows.{AllDistinctIf}
 use Rattle.epoch_selection.specs.Searches.{epochs_left}
 use Rattle.grid_model.specs.Boxes.{grid_box}
 use Rattle.input_files.specs.declared.status.Status.TheVariants as status
 use Rattle.log_writer.specs.Sizes.{most_bytes}
-use Rattle.galileo_rows.specs.declared.both.BothRows.{BothRows}
+use Rattle.station_epochs.specs.Stations.{station_of}
+use Rattle.station_rows.specs.Stations.{rows_meaning}
+use Rattle.station_rows.specs.declared.sources.FileRows.{FileRows}
 use Rattle.rinex_obs.specs.declared.obs.ObsEpoch.{ObsEpoch}
-use Rattle.sat_rows.specs.Sources.{both_meaning}
 use Rattle.tube_rows.proofs.KeptLemmas.{text_of_tube}
 use Rattle.tube_rows.specs.TubeLeft.{TubeLeft, index_of, left_in, left_of}
 use Rattle.cover_run.proofs.TrackingLemmas.{broken_off, text_known, told_lost, track_of}
@@ -34,7 +36,7 @@ returns-then-eq g c =
       search = c.root-search.ensures.value;
       speed = c.declared_speed-speed.ensures.speed;
     } in
-    let meaning = λ (s : BothRows). both_meaning s.nav.now s.settings.now in
+    let meaning = λ (s : FileRows). rows_meaning s.nav.now s.settings.now (option_map station_of s.station) in
     let distinct = subst (λ (epochs : List ObsEpoch). AllDistinctIf renews epochs)
     (ap (λ (left : TubeLeft). left.epochs) made.left)
     (writable_distinct renews (index_of b.given) (epochs_left b.tube.searches)
@@ -43,7 +45,7 @@ returns-then-eq g c =
     let wrote = writes_as [] _ _ _ _ limit _ _ _ _
     (λ answer bytes said text. text_known (meaning_of i) (meaning b.source.now) b.rules given
     b.maker.renews renews (left_of b.tube b.given b.lost) here behind limit answer bytes said
-    (ap meaning made.source) made.rules made.renews made.left
+    (ap meaning made.source ∙ c.rows_of-source.ensures) made.rules made.renews made.left
     (text_of_tube (λ x. x.source.now) (λ x. x.rules) (λ x. left_of x.tube x.given x.lost)
     (λ x. x.maker) meaning b last given limit answer bytes said text)) most
     c.write_named-status.result c.write_named-status.ensures.log in
@@ -73,7 +75,7 @@ returns g c =
       search = c.root-search.ensures.value;
       speed = c.declared_speed-speed.ensures.speed;
     } in
-    let meaning = λ (s : BothRows). both_meaning s.nav.now s.settings.now in
+    let meaning = λ (s : FileRows). rows_meaning s.nav.now s.settings.now (option_map station_of s.station) in
     let distinct = subst (λ (epochs : List ObsEpoch). AllDistinctIf renews epochs)
     (ap (λ (left : TubeLeft). left.epochs) made.left)
     (writable_distinct renews (index_of b.given) (epochs_left b.tube.searches)
@@ -82,7 +84,7 @@ returns g c =
     let wrote = writes_as [] _ _ _ _ limit _ _ _ _
     (λ answer bytes said text. text_known (meaning_of i) (meaning b.source.now) b.rules given
     b.maker.renews renews (left_of b.tube b.given b.lost) here behind limit answer bytes said
-    (ap meaning made.source) made.rules made.renews made.left
+    (ap meaning made.source ∙ c.rows_of-source.ensures) made.rules made.renews made.left
     (text_of_tube (λ x. x.source.now) (λ x. x.rules) (λ x. left_of x.tube x.given x.lost)
     (λ x. x.maker) meaning b last given limit answer bytes said text)) most
     c.write_named-status.result c.write_named-status.ensures.log in
