@@ -4,7 +4,7 @@ use Rattle.std.proofs.lemmas.Option.{same_Some}
 use Rattle.std.specs.Prelude.{IfErr, IfOk}
 use Rattle.error_bounds.specs.Reading.{centre_with}
 use Rattle.error_bounds.specs.declared.station.DeclaredStation.{DeclaredStation}
-use Rattle.grid_model.specs.Grounds.{IsNearGround}
+use Rattle.error_bounds.specs.Sizes.{IsNearGround}
 use Rattle.grid_model.specs.declared.boxes.Pos.{Pos}
 use Rattle.rinex_obs.specs.Files.{Observations, IsStationFile, IsFirstStationFault, station_file}
 use Rattle.rinex_obs.specs.Reading.{observations_of, plain_epochs}

@@ -11,7 +11,7 @@ use Rattle.error_bounds.specs.declared.settings.Centre.TheVariants.{Header, At}
 use Rattle.error_bounds.specs.declared.settings.Settings.{Settings}
 use Rattle.outer_io.specs.declared.slots.Slot.TheVariants as slot
 use Rattle.gnss_model.specs.declared.systems.Message.{Message}
-use Rattle.grid_model.specs.Grounds.{IsNearGround}
+use Rattle.error_bounds.specs.Sizes.{IsNearGround}
 use Rattle.grid_model.specs.declared.boxes.Pos.{Pos}
 use Rattle.rinex_nav.specs.Files as nav
 use Rattle.rinex_nav.specs.Reading.{records_of}

@@ -2,7 +2,7 @@
 use Rattle.std.specs.Prelude.{◌≡◌, Some}
 use Rattle.error_bounds.specs.Reading.{Tells, centre_with}
 use Rattle.error_bounds.specs.declared.station.DeclaredStation.{DeclaredStation}
-use Rattle.grid_model.specs.Grounds.{IsNearGround}
+use Rattle.error_bounds.specs.Sizes.{IsNearGround}
 use Rattle.grid_model.specs.declared.boxes.Pos.{Pos}
 use Rattle.rinex_obs.specs.declared.obs.Obs.{Obs}
 use Rattle.input_files.specs.Suits.{far_place}

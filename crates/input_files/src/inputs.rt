@@ -81,7 +81,7 @@ fn read_station_file<H: Shelf>(
     settings: &Settings,
     shelf: &mut H,
 ) -> Result<Option<StationFile>, Notice>
-    requires suits { station_misfit (is_some (option_map (λ name. name.now) name.entry))
+    requires suits { station_misfit (is_some (option_map (λ name. name.now) name))
         (value_of_settings settings.now).station ≡ None }
     ensures found { Found (ReadsStation limits.now (sought_of (value_of_settings settings.now))
         (option_map (λ name. name.now) name.entry) (value_of_settings settings.now).station)

@@ -1,8 +1,8 @@
 //! Where a station stands.
 
-ghost use Rattle.std.specs.Prelude.{◌≡◌, ◌↔◌, Some, IfErr, IfOk, IsTrue, true};
+ghost use Rattle.std.specs.Prelude.{◌≡◌, IfErr, IfOk, true};
 ghost use Rattle.error_bounds.specs.Reading.{IsKnown, centre_with};
-ghost use Rattle.grid_model.specs.Grounds.{IsNearGround};
+ghost use Rattle.grid_model.specs.Squares.{sum_of_squares};
 ghost use Rattle.input_files.specs.Inputs.{wants_position};
 ghost use Rattle.input_files.specs.Placed.{IsPlaced, NamesFar};
 ghost use Rattle.rinex_obs.specs.Facts.{AreRising};
@@ -15,14 +15,16 @@ use grid_model::Pos;
 use rinex_obs::Obs;
 
 /// The greatest distance of a station from the origin, in um: 6,600 km.
-const STATION_REACH: i128 = 6_600_000_000_000;
+const STATION_REACH: u128 = 6_600_000_000_000;
 
-/// Whether a point is within 6,600 km of the origin.
-fn is_near_ground(point: &Pos) -> bool
-    ensures { IsTrue result ↔ IsNearGround point.now }
+/// The square of a point's distance from the origin, in um^2.
+fn squared_distance(point: &Pos) -> u128
+    ensures { result ≡ sum_of_squares point.now.x point.now.y point.now.z }
 {
-    let (x, y, z) = (i128::from(point.x), i128::from(point.y), i128::from(point.z));
-    x * x + y * y + z * z <= STATION_REACH * STATION_REACH
+    let x = u128::from(point.x.unsigned_abs());
+    let y = u128::from(point.y.unsigned_abs());
+    let z = u128::from(point.z.unsigned_abs());
+    x * x + y * y + z * z
 }
 
 /// The declared place of a station, or that of its file's header.
@@ -46,7 +48,7 @@ pub fn placed(obs: Obs, declared: &DeclaredStation) -> Result<StationFile, Notic
     let Some(place) = place_of(declared.place, obs.position) else {
         unreachable!();
     };
-    if is_near_ground(&place) {
+    if squared_distance(&place) <= STATION_REACH * STATION_REACH {
         return Ok(StationFile {
             place,
             age: declared.age,

@@ -1,7 +1,7 @@
 //! What is read of a station.
 
 ghost use Rattle.std.specs.Prelude.{◌≤◌};
-ghost use Rattle.grid_model.specs.Grounds.{IsNearGround};
+ghost use Rattle.error_bounds.specs.Sizes.{IsNearGround};
 ghost use Rattle.rinex_obs.specs.Facts.{AreRising};
 
 use grid_model::Pos;

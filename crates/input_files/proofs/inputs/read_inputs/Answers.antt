@@ -37,11 +37,13 @@ obs_at names = (slot.Obs, names.obs) ∷ []
 
 -- ---- the settings suit the station
 
-pub read_station_file-station-requires-suits : goal.read_station_file-station-requires-suits
-read_station_file-station-requires-suits g c =
+pub read_station_file-requires : goal.read_station_file-requires
+read_station_file-requires g c =
     let s = value_of_settings c.in_ok-settings.settings in
     let names = files_asked c.args.words.now in
-    later_suits c.args.moving s.speed (station_misfit (is_some names.station) s.station) (rw c.is_named.ensures at c.in_ok-settings.ensures.usual)
+    record {
+      suits = later_suits c.args.moving s.speed (station_misfit (is_some names.station) s.station) (rw c.is_named.ensures at c.in_ok-settings.ensures.usual);
+    }
 
 -- ---- the settings weren't read
 

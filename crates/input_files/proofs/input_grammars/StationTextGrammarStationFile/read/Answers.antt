@@ -7,8 +7,8 @@ use Rattle.input_files.specs.Inputs.{station_text}
 use Rattle.input_files.specs.declared.input_fault.InputFault.TheVariants as input
 use Rattle.input_files.proofs.input_grammars.StationTextGrammarStationFile.read.Goals as goal
 
-pub placed-requires-known : goal.placed-requires-known
-placed-requires-known c =
+pub placed-requires-clause-known : goal.placed-requires-clause-known
+placed-requires-clause-known c =
     let t = c.args.self.now in
     λ wanted. known true t.sought.now c.wants_position-position.result c.deref.result.now (observations_of c.in-Ok.obs)
     c.in-Ok.ensures.records (c.wants_position-position.ensures ∙ wanted)
