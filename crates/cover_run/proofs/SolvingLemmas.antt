@@ -1,5 +1,5 @@
 -- The log that `solve` writes, against the files.
-use Rattle.std.proofs.Common.{◌≡◌, ℕ, Bool, List, Option, None, Some, Ok, Err, refl, subst}
+use Rattle.std.proofs.Common.{◌≡◌, ℕ, Bool, List, Option, None, Some, Ok, Err, refl, ap, subst, ◌∙◌}
 use Rattle.std.specs.Prelude.{option_map}
 use Rattle.sharpness_laws.proofs.LogLemmas.{begun_clear, whole_clear}
 use Rattle.sharpness_laws.specs.UsableRows.{AllDistinctIf}
@@ -17,9 +17,10 @@ use Rattle.grid_model.specs.declared.boxes.Box3.{Box3}
 use Rattle.sat_model.specs.declared.rules.Rules.{Rules}
 use Rattle.rinex_nav.specs.declared.record.NavRecord.{NavRecord}
 use Rattle.sat_rows.specs.Meanings.{IsSound, Meaning}
-use Rattle.station_epochs.specs.Stations.{Station}
+use Rattle.station_epochs.specs.Stations.{Station, station_of}
 use Rattle.station_rows.specs.Laws.{rows_sound}
 use Rattle.station_rows.specs.Stations.{rows_meaning}
+use Rattle.station_rows.specs.declared.sources.FileRows.{FileRows}
 use Rattle.paving_log_check.specs.Admissible.{Admits}
 use Rattle.cover_run.specs.Solving.{IsRootOf, IsSolution, epoch_source, epochs_of, meaning_of, station_in}
 use Rattle.cover_run.specs.Writing.{Answer}
@@ -36,6 +37,16 @@ rows_delays records settings (Some station) = refl
 
 pub files_delays : (i : Inputs) → (meaning_of i).delays ≡ i.settings.delays
 files_delays i = rows_delays i.nav i.settings (option_map station_in i.station)
+
+-- a source of their rows says what they say
+pub rows_mean : (i : Inputs) (rows : FileRows) → rows.nav.now ≡ i.nav → rows.settings.now ≡ i.settings
+    → option_map station_of rows.station ≡ option_map station_in i.station
+    → rows_meaning rows.nav.now rows.settings.now (option_map station_of rows.station) ≡ meaning_of i
+rows_mean i rows nav settings station =
+    let known = option_map station_of rows.station in
+    ap (λ (n : List NavRecord). rows_meaning n rows.settings.now known) nav
+    ∙ ap (λ (s : Settings). rows_meaning i.nav s known) settings
+    ∙ ap (λ (o : Option Station). rows_meaning i.nav i.settings o) station
 
 -- by a source, rules and a key that are known
 pub text_known : (m n : Meaning) (given rules : Rules) (asked renews : Bool)

@@ -1,10 +1,9 @@
 //! The rows of the files that were read.
 
 ghost use Rattle.std.specs.Prelude.{◌≡◌, option_map};
-ghost use Rattle.cover_run.specs.Solving.{meaning_of, station_in};
+ghost use Rattle.cover_run.specs.Solving.{station_in};
 ghost use Rattle.input_files.specs.Inputs.{AreEnough};
 ghost use Rattle.station_epochs.specs.Stations.{station_of};
-ghost use Rattle.station_rows.specs.Stations.{rows_meaning};
 
 use input_files::{Inputs, StationFile};
 use station_epochs::KnownStation;
@@ -25,8 +24,10 @@ fn known_station(station: &StationFile) -> KnownStation<'_>
 /// The rows that the files give, alone or with the station.
 pub fn rows_of(inputs: &Inputs) -> FileRows<'_>
     requires { AreEnough inputs.now }
-    ensures { rows_meaning result.nav.now result.settings.now
-        (option_map station_of result.station) ≡ meaning_of inputs.now }
+    ensures nav { result.nav.now ≡ inputs.now.nav }
+    ensures settings { result.settings.now ≡ inputs.now.settings }
+    ensures station { option_map station_of result.station
+        ≡ option_map station_in inputs.now.station }
 {
     let (nav, settings) = (&inputs.nav, &inputs.settings);
     match &inputs.station {

@@ -10,7 +10,7 @@ use Rattle.rinex_obs.specs.declared.obs.ObsEpoch.{ObsEpoch}
 use Rattle.station_epochs.specs.Stations.{station_of}
 use Rattle.station_rows.specs.Stations.{rows_meaning}
 use Rattle.station_rows.specs.declared.sources.FileRows.{FileRows}
-use Rattle.cover_run.proofs.SolvingLemmas.{solution_of, text_known}
+use Rattle.cover_run.proofs.SolvingLemmas.{rows_mean, solution_of, text_known}
 use Rattle.cover_run.proofs.WritingLemmas.{writes_as}
 use Rattle.cover_run.specs.Solving.{IsSolution, meaning_of}
 use Rattle.cover_run.proofs.solving.write_solution.Goals as goal
@@ -33,7 +33,8 @@ returns g c =
     (λ answer bytes said text. solution_of chosen i c.root-root.result (left_of last.searches) limit
     answer bytes said c.root-root.ensures.value c.root-root.ensures.search_box distinct
     (text_known (meaning_of i) (meaning b.source.now) b.rules rules b.maker.renews renews
-    (left_of b.searches) _ (left_of last.searches) limit answer bytes said (ap meaning made.source ∙ c.rows_of-source.ensures)
+    (left_of b.searches) _ (left_of last.searches) limit answer bytes said (ap meaning made.source ∙ rows_mean i c.rows_of-source.result c.rows_of-source.ensures.nav
+    c.rows_of-source.ensures.settings c.rows_of-source.ensures.station)
     made.rules made.renews made.left
     (text_of_epochs (λ x. x.source.now) (λ x. x.rules) (λ x. x.searches) (λ x. x.maker) meaning b
     last rules limit answer bytes said text)))

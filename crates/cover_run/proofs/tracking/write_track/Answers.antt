@@ -13,6 +13,7 @@ use Rattle.rinex_obs.specs.declared.obs.ObsEpoch.{ObsEpoch}
 use Rattle.tube_rows.proofs.KeptLemmas.{text_of_tube}
 use Rattle.tube_rows.specs.TubeLeft.{TubeLeft, index_of, left_in, left_of}
 use Rattle.cover_run.proofs.TrackingLemmas.{broken_off, text_known, told_lost, track_of}
+use Rattle.cover_run.proofs.SolvingLemmas.{rows_mean}
 use Rattle.cover_run.proofs.WritingLemmas.{writes_as}
 use Rattle.cover_run.specs.Solving.{epochs_of, meaning_of}
 use Rattle.cover_run.specs.Tracking.{IsTrack, IsTubeOf}
@@ -45,7 +46,8 @@ returns-then-eq g c =
     let wrote = writes_as [] _ _ _ _ limit _ _ _ _
     (λ answer bytes said text. text_known (meaning_of i) (meaning b.source.now) b.rules given
     b.maker.renews renews (left_of b.tube b.given b.lost) here behind limit answer bytes said
-    (ap meaning made.source ∙ c.rows_of-source.ensures) made.rules made.renews made.left
+    (ap meaning made.source ∙ rows_mean i c.rows_of-source.result c.rows_of-source.ensures.nav
+    c.rows_of-source.ensures.settings c.rows_of-source.ensures.station) made.rules made.renews made.left
     (text_of_tube (λ x. x.source.now) (λ x. x.rules) (λ x. left_of x.tube x.given x.lost)
     (λ x. x.maker) meaning b last given limit answer bytes said text)) most
     c.write_named-status.result c.write_named-status.ensures.log in
@@ -84,7 +86,8 @@ returns g c =
     let wrote = writes_as [] _ _ _ _ limit _ _ _ _
     (λ answer bytes said text. text_known (meaning_of i) (meaning b.source.now) b.rules given
     b.maker.renews renews (left_of b.tube b.given b.lost) here behind limit answer bytes said
-    (ap meaning made.source ∙ c.rows_of-source.ensures) made.rules made.renews made.left
+    (ap meaning made.source ∙ rows_mean i c.rows_of-source.result c.rows_of-source.ensures.nav
+    c.rows_of-source.ensures.settings c.rows_of-source.ensures.station) made.rules made.renews made.left
     (text_of_tube (λ x. x.source.now) (λ x. x.rules) (λ x. left_of x.tube x.given x.lost)
     (λ x. x.maker) meaning b last given limit answer bytes said text)) most
     c.write_named-status.result c.write_named-status.ensures.log in
