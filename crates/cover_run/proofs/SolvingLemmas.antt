@@ -1,18 +1,49 @@
 -- The log that `solve` writes, against the files.
-use Rattle.std.proofs.Common.{◌≡◌, ℕ, Bool, List, Ok, Err, refl, subst}
+use Rattle.std.proofs.Common.{◌≡◌, ℕ, Bool, List, Option, None, Some, Ok, Err, refl, ap, subst, ◌∙◌}
+use Rattle.std.specs.Prelude.{option_map}
 use Rattle.sharpness_laws.proofs.LogLemmas.{begun_clear, whole_clear}
 use Rattle.sharpness_laws.specs.UsableRows.{AllDistinctIf}
 use Rattle.epoch_rows.proofs.CameLemmas.{whole_admits, whole_covers}
 use Rattle.epoch_rows.specs.EpochsLeft.{EpochsLeft, source_of}
 use Rattle.epoch_selection.specs.declared.selection.Selection.{Selection}
+use Rattle.error_bounds.specs.declared.settings.Settings.{Settings}
+use Rattle.gnss_model.specs.declared.delays.Delays.{Delays}
 use Rattle.input_files.specs.declared.inputs.Inputs.{Inputs}
 use Rattle.log_writer.specs.Texts.{IsText}
 use Rattle.grid_model.specs.Boxes.{GridBox}
 use Rattle.sat_model.specs.declared.rules.Rules.{Rules}
-use Rattle.sat_rows.specs.Laws.{both_sound}
-use Rattle.sat_rows.specs.Meanings.{Meaning}
-use Rattle.cover_run.specs.Solving.{IsRootOf, IsSolution, epoch_source, epochs_of, meaning_of, standing}
+use Rattle.rinex_nav.specs.declared.record.NavRecord.{NavRecord}
+use Rattle.sat_rows.specs.Meanings.{IsSound, Meaning}
+use Rattle.station_epochs.specs.Stations.{Station, station_of}
+use Rattle.station_rows.specs.Laws.{rows_sound}
+use Rattle.station_rows.specs.Stations.{rows_meaning}
+use Rattle.station_rows.specs.declared.sources.FileRows.{FileRows}
+use Rattle.paving_log_check.specs.Admissible.{Admits}
+use Rattle.epoch_selection.specs.Searches.{searches_in}
+use Rattle.cover_run.specs.Solving.{IsRootOf, IsSolution, epoch_source, epochs_of, meaning_of, standing, station_in}
 use Rattle.cover_run.specs.Writing.{Answer}
+
+-- what the files say keeps the laws of a source, and its delays are those of the settings
+pub files_sound : (i : Inputs) → IsSound (meaning_of i)
+files_sound i = rows_sound i.nav i.settings (option_map station_in i.station)
+
+rows_delays : (records : List NavRecord) (settings : Settings) (station : Option Station)
+    → (rows_meaning records settings station).delays ≡ settings.delays
+rows_delays records settings None = refl
+rows_delays records settings (Some station) = refl
+
+pub files_delays : (i : Inputs) → (meaning_of i).delays ≡ i.settings.delays
+files_delays i = rows_delays i.nav i.settings (option_map station_in i.station)
+
+-- a source of their rows says what they say
+pub rows_mean : (i : Inputs) (rows : FileRows) → rows.nav.now ≡ i.nav → rows.settings.now ≡ i.settings
+    → option_map station_of rows.station ≡ option_map station_in i.station
+    → rows_meaning rows.nav.now rows.settings.now (option_map station_of rows.station) ≡ meaning_of i
+rows_mean i rows nav settings station =
+    let known = option_map station_of rows.station in
+    ap (λ (n : List NavRecord). rows_meaning n rows.settings.now known) nav
+    ∙ ap (λ (s : Settings). rows_meaning i.nav s known) settings
+    ∙ ap (λ (o : Option Station). rows_meaning i.nav i.settings o) station
 
 -- by a source, rules and a key that are known
 pub text_known : (m n : Meaning) (given rules : Rules) (asked renews : Bool)
@@ -41,14 +72,17 @@ solution_of chosen i root last limit (Ok done) bytes said is_root distinct text 
     let m = meaning_of i in
     let rules = i.settings.rules in
     let renews = i.settings.renew in
-    let sound = both_sound i.nav i.settings in
+    let sound = files_sound i in
     let left = standing chosen i root in
     record {
       root = root;
       is_root = is_root;
       last = last;
       whole = text;
-      admits = whole_admits m sound renews rules left last refl limit bytes said text;
+      admits = λ owns are. subst (λ (delays : Delays).
+          Admits delays (searches_in root (epochs_of chosen i)) owns rules text.log)
+          (files_delays i)
+          (whole_admits m sound renews rules left last refl limit bytes said text owns are);
       cover = whole_covers m sound renews rules left last refl limit bytes said text;
       nothing_clear = whole_clear m sound renews rules left refl distinct limit bytes said last text;
     }
@@ -56,6 +90,6 @@ solution_of chosen i root last limit (Err fault) bytes said is_root distinct tex
   root = root;
   is_root = is_root;
   begun = text;
-  nothing_clear = begun_clear (meaning_of i) (both_sound i.nav i.settings) i.settings.renew
+  nothing_clear = begun_clear (meaning_of i) (files_sound i) i.settings.renew
       i.settings.rules (standing chosen i root) refl distinct limit bytes said fault text;
 }

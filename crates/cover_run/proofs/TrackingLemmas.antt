@@ -4,6 +4,7 @@ use Rattle.std.proofs.Common.{Option, None, Some, Ok, Err, inl, inr, refl, sym, 
 use Rattle.std.specs.Option.{option_map}
 use Rattle.sharpness_laws.proofs.LogLemmas.{came_clear, whole_clear}
 use Rattle.sharpness_laws.specs.UsableRows.{AllDistinctIf}
+use Rattle.gnss_model.specs.declared.delays.Delays.{Delays}
 use Rattle.grid_model.specs.Boxes.{GridBox}
 use Rattle.grid_model.specs.Hulls.{joined_box}
 use Rattle.epoch_rows.proofs.CameLemmas.{whole_accepted, whole_admits, whole_covers}
@@ -31,13 +32,15 @@ use Rattle.moving_tube.specs.Hulls.{hull_behind, hull_of}
 use Rattle.outer_io.specs.Causes.{Rose}
 use Rattle.outer_io.specs.Taken.{SinkState, SinkTold, TakenBy, taking}
 use Rattle.paving_log.specs.CoverBoxes.{cover_of}
+use Rattle.paving_log_check.specs.Admissible.{Admits}
 use Rattle.sat_model.specs.Cover.{kept_boxes}
 use Rattle.sat_model.specs.Logs.{Block, LogValue, is_few}
 use Rattle.sat_model.specs.declared.rules.Rules.{Rules}
-use Rattle.sat_rows.specs.Laws.{both_sound}
 use Rattle.sat_rows.specs.Meanings.{Meaning}
 use Rattle.tube_searches.proofs.FoundLemmas.{found_by}
 use Rattle.input_files.specs.declared.inputs.Inputs.{Inputs}
+use Rattle.tube_searches.specs.Tubes.{tube_searches}
+use Rattle.cover_run.proofs.SolvingLemmas.{files_delays, files_sound}
 use Rattle.cover_run.specs.Solving.{epoch_source, epochs_of, meaning_of}
 use Rattle.cover_run.specs.Telling.{Sinks, sinks}
 use Rattle.cover_run.specs.Tracking.{IsTrack, IsTrackText, IsTubeOf, TellsLost, lost_behind, lost_in, lost_line, lost_pieces, lost_text, lost_with, moving, tube_of}
@@ -296,7 +299,7 @@ pub track_of : (chosen : Selection) (i : Inputs) (search : GridBox) (speed : ℕ
     → IsTrack chosen i limit answer bytes said
 track_of chosen i search speed last limit (Ok done) bytes said is_tube distinct track =
     let m = meaning_of i in
-    let sound = both_sound i.nav i.settings in
+    let sound = files_sound i in
     let renews = i.settings.renew in
     let rules = i.settings.rules in
     let here = moving chosen i search speed in
@@ -307,7 +310,9 @@ track_of chosen i search speed last limit (Ok done) bytes said is_tube distinct 
       is_tube = is_tube;
       last = last;
       track = track;
-      admits = whole_admits m sound renews rules here last refl limit bytes track.report w;
+      admits = λ owns are. subst (λ (delays : Delays).
+          Admits delays (tube_searches (tube_of chosen i search speed) w.log.blocks) owns rules w.log)
+          (files_delays i) (whole_admits m sound renews rules here last refl limit bytes track.report w owns are);
       cover = whole_covers m sound renews rules here last refl limit bytes track.report w;
       nothing_clear = whole_clear m sound renews rules here refl distinct limit bytes track.report last w;
       found = λ path goes fits. found_by m (tube_of chosen i search speed) rules w.log (kept_boxes w.log) path refl
@@ -319,6 +324,6 @@ track_of chosen i search speed last limit (Err fault) bytes said is_tube distinc
   is_tube = is_tube;
   last = last;
   begun = begun;
-  nothing_clear = came_clear (meaning_of i) (both_sound i.nav i.settings) i.settings.renew i.settings.rules (moving chosen i search speed) None begun.blocks begun.behind begun.hand
+  nothing_clear = came_clear (meaning_of i) (files_sound i) i.settings.renew i.settings.rules (moving chosen i search speed) None begun.blocks begun.behind begun.hand
       tt distinct begun.came begun.in_hand;
 }

@@ -1,5 +1,5 @@
 -- What `solve` writes.
-use Rattle.std.specs.Prelude.{ℕ, List, [], length, Ok, Err}
+use Rattle.std.specs.Prelude.{ℕ, List, [], length, Ok, Err, option_map}
 use Rattle.sharpness_laws.specs.Left.{BlocksLeaveNothingClear, LogLeavesNothingClear}
 use Rattle.command_words.specs.Commands.{Files}
 use Rattle.epoch_rows.specs.EpochsLeft.{EpochsLeft, left_in, source_of}
@@ -10,6 +10,7 @@ use Rattle.error_bounds.specs.Reading.{centre_with, IsRoot}
 use Rattle.input_files.specs.Inputs.{input_files}
 use Rattle.input_files.specs.Reading.{NamedSlots}
 use Rattle.input_files.specs.declared.inputs.Inputs.{Inputs}
+use Rattle.input_files.specs.declared.station_file.StationFile.{StationFile}
 use Rattle.input_files.specs.declared.status.Status.{Status}
 use Rattle.log_writer.specs.Sizes.{most_bytes}
 use Rattle.log_writer.specs.Sources.{Source}
@@ -22,7 +23,8 @@ use Rattle.paving_log_check.specs.OwnLines.{OwnLines, AreOwn}
 use Rattle.rinex_obs.specs.declared.obs.ObsEpoch.{ObsEpoch}
 use Rattle.grid_model.specs.Boxes.{GridBox}
 use Rattle.sat_rows.specs.Meanings.{Meaning}
-use Rattle.sat_rows.specs.Sources.{both_meaning}
+use Rattle.station_epochs.specs.Stations.{Station}
+use Rattle.station_rows.specs.Stations.{rows_meaning}
 use Rattle.cover_run.specs.Chosen.{chosen_in}
 use Rattle.cover_run.specs.Worlds.{World}
 use Rattle.cover_run.specs.Writing.{Answer, Writes}
@@ -31,10 +33,14 @@ use Rattle.cover_run.specs.Writing.{Answer, Writes}
 abbrev pub epochs_of : Selection → Inputs → List ObsEpoch
 epochs_of chosen i = selected chosen i.obs.epochs.items
 
+-- a station whose file was read
+abbrev pub station_in : StationFile → Station
+station_in s = record { place = s.place; age = s.age; epochs = s.obs.epochs.items }
+
 module _ (i : Inputs) where
-  -- what the files say of satellites
+  -- what the files say of satellites: of a receiver alone, or of the difference to a station
   abbrev pub meaning_of : Meaning
-  meaning_of = both_meaning i.nav i.settings
+  meaning_of = rows_meaning i.nav i.settings (option_map station_in i.station)
 
   -- the epochs give their blocks in turn, and renew their rows where the settings say so
   abbrev pub epoch_source : Source EpochsLeft

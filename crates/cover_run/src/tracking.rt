@@ -14,13 +14,13 @@ ghost use Rattle.moving_tube.specs.Reach.{fastest};
 ghost use Rattle.tube_searches.specs.Tubes.{tube_value};
 
 use crate::chosen::chosen_in;
+use crate::file_rows::rows_of;
 use crate::telling::{say, tell};
 use crate::texts::Line;
 use crate::writing::write_named;
 use command_words::Files;
 use epoch_rows::ObsBlocks;
 use epoch_selection::{Searches, Selection};
-use galileo_rows::BothRows;
 use input_files::{Inputs, Limits, Status, read_inputs, speed_of};
 use itoa::Buffer;
 use outer_io::{Shelf, Sink};
@@ -104,10 +104,7 @@ fn write_track<H: Shelf, O: Sink, E: Sink>(
 {
     let settings = &inputs.settings;
     let rules = &settings.rules;
-    let source = BothRows {
-        nav: &inputs.nav,
-        settings,
-    };
+    let source = rows_of(inputs);
     let tube = declared_tube(inputs, chosen);
     let mut blocks = ObsBlocks::of_walk(alloc, &source, tube, rules, settings.renew);
     let status = write_named(alloc, limits, log, rules, &mut blocks, shelf, out, err);

@@ -1,4 +1,5 @@
 use Rattle.std.proofs.Common.{[], List, None, length, ap, rules, subst, sym, ◌∙◌}
+use Rattle.std.specs.Option.{option_map}
 use Rattle.sharpness_laws.proofs.LogLemmas.{writable_distinct}
 use Rattle.sharpness_laws.specs.UsableRows.{AllDistinctIf}
 use Rattle.epoch_rows.proofs.KeptLemmas.{text_of_epochs}
@@ -10,9 +11,10 @@ use Rattle.epoch_selection.specs.Selections.{selected}
 use Rattle.grid_model.specs.Boxes.{grid_box}
 use Rattle.log_writer.specs.Sizes.{most_bytes}
 use Rattle.rinex_obs.specs.declared.obs.ObsEpoch.{ObsEpoch}
-use Rattle.sat_rows.specs.Sources.{both_meaning}
-use Rattle.galileo_rows.specs.declared.both.BothRows.{BothRows}
-use Rattle.cover_run.proofs.SolvingLemmas.{solution_of, text_known}
+use Rattle.station_epochs.specs.Stations.{station_of}
+use Rattle.station_rows.specs.Stations.{rows_meaning}
+use Rattle.station_rows.specs.declared.sources.FileRows.{FileRows}
+use Rattle.cover_run.proofs.SolvingLemmas.{rows_mean, solution_of, text_known}
 use Rattle.cover_run.proofs.WritingLemmas.{writes_as}
 use Rattle.cover_run.specs.Solving.{IsSolution, meaning_of}
 use Rattle.cover_run.proofs.solving.write_solution.Goals as goal
@@ -36,7 +38,7 @@ returns g c =
     let chosen = c.args.chosen in
     let root = grid_box c.root.result in
     let last = c.write_named.new.blocks in
-    let meaning = λ (s : BothRows). both_meaning s.nav.now s.settings.now in
+    let meaning = λ (s : FileRows). rows_meaning s.nav.now s.settings.now (option_map station_of s.station) in
     let renews = i.settings.renew in
     let here = made.left ∙ ap (λ (epochs : List ObsEpoch). left_in (selected chosen epochs)
     (λ blocks. searches_in root (selected chosen epochs))) c.deref.ensures.value in
@@ -49,7 +51,8 @@ returns g c =
     (λ answer bytes said text. solution_of chosen i root behind limit answer bytes said
     c.root.ensures.value distinct
     (text_known (meaning_of i) (meaning b.source.now) b.rules rules b.maker.renews renews _ _ behind
-    limit answer bytes said (ap meaning made.source) made.rules made.renews here
+    limit answer bytes said (ap meaning made.source ∙ rows_mean i c.rows_of-source.result c.rows_of-source.ensures.nav
+    c.rows_of-source.ensures.settings c.rows_of-source.ensures.station) made.rules made.renews here
     (text_of_epochs (λ x. x.source.now) (λ x. x.rules)
     (λ x. left_of (epochs_left x.walk) (λ blocks. searches_left x.walk)
     (λ tag kept blocks. searches_left x.walk) x.given x.lost)

@@ -1,4 +1,5 @@
 use Rattle.std.proofs.Common.{◌≡◌, ◌≢◌, [], List, ap, length, refl, rules, subst, sym, ◌∙◌}
+use Rattle.std.specs.Option.{option_map}
 use Rattle.sharpness_laws.proofs.LogLemmas.{writable_distinct}
 use Rattle.sharpness_laws.specs.UsableRows.{AllDistinctIf}
 use Rattle.epoch_rows.proofs.KeptLemmas.{text_of_epochs}
@@ -9,12 +10,13 @@ use Rattle.epoch_selection.specs.Searches.{epochs_left}
 use Rattle.grid_model.specs.Boxes.{grid_box}
 use Rattle.input_files.specs.declared.status.Status.TheVariants as status
 use Rattle.log_writer.specs.Sizes.{most_bytes}
-use Rattle.galileo_rows.specs.declared.both.BothRows.{BothRows}
+use Rattle.station_epochs.specs.Stations.{station_of}
+use Rattle.station_rows.specs.Stations.{rows_meaning}
+use Rattle.station_rows.specs.declared.sources.FileRows.{FileRows}
 use Rattle.rinex_obs.specs.declared.obs.ObsEpoch.{ObsEpoch}
-use Rattle.sat_rows.specs.Sources.{both_meaning}
 use Rattle.std.specs.Prelude.{None}
 use Rattle.tube_searches.specs.Tubes.{TubeValue, IsInside, tube_searches, tube_value, with_kept}
-use Rattle.cover_run.proofs.SolvingLemmas.{text_known}
+use Rattle.cover_run.proofs.SolvingLemmas.{rows_mean, text_known}
 use Rattle.cover_run.proofs.TrackingLemmas.{broken_off, told_lost, track_of}
 use Rattle.cover_run.proofs.WritingLemmas.{writes_as}
 use Rattle.cover_run.specs.Solving.{meaning_of}
@@ -50,14 +52,15 @@ returns-then-eq g c =
     (λ blocks. tube_searches (tube_value last.walk) blocks)
     (λ tag kept blocks. tube_searches (with_kept (tube_value last.walk) tag kept) blocks) last.given
     last.lost in
-    let meaning = λ (s : BothRows). both_meaning s.nav.now s.settings.now in
+    let meaning = λ (s : FileRows). rows_meaning s.nav.now s.settings.now (option_map station_of s.station) in
     let distinct = subst (λ (epochs : List ObsEpoch). AllDistinctIf renews epochs)
     (ap (λ (left : EpochsLeft). left.epochs) here)
     (writable_distinct renews (index_of b.given) (epochs_left b.walk.searches) made.can.epochs_are) in
     let most = ap (λ (l : EpochsLeft). most_bytes (length l.epochs) given.bisections) here in
     let wrote = writes_as [] _ _ _ _ limit _ _ _ _
     (λ answer bytes said text. text_known (meaning_of i) (meaning b.source.now) b.rules given
-    b.maker.renews renews _ _ behind limit answer bytes said (ap meaning made.source) made.rules
+    b.maker.renews renews _ _ behind limit answer bytes said (ap meaning made.source ∙ rows_mean i c.rows_of-source.result c.rows_of-source.ensures.nav
+    c.rows_of-source.ensures.settings c.rows_of-source.ensures.station) made.rules
     made.renews here
     (text_of_epochs (λ x. x.source.now) (λ x. x.rules)
     (λ x. left_of (epochs_left x.walk.searches) (λ blocks. tube_searches (tube_value x.walk) blocks)
@@ -91,14 +94,15 @@ returns g c =
     (λ blocks. tube_searches (tube_value last.walk) blocks)
     (λ tag kept blocks. tube_searches (with_kept (tube_value last.walk) tag kept) blocks) last.given
     last.lost in
-    let meaning = λ (s : BothRows). both_meaning s.nav.now s.settings.now in
+    let meaning = λ (s : FileRows). rows_meaning s.nav.now s.settings.now (option_map station_of s.station) in
     let distinct = subst (λ (epochs : List ObsEpoch). AllDistinctIf renews epochs)
     (ap (λ (left : EpochsLeft). left.epochs) here)
     (writable_distinct renews (index_of b.given) (epochs_left b.walk.searches) made.can.epochs_are) in
     let most = ap (λ (l : EpochsLeft). most_bytes (length l.epochs) given.bisections) here in
     let wrote = writes_as [] _ _ _ _ limit _ _ _ _
     (λ answer bytes said text. text_known (meaning_of i) (meaning b.source.now) b.rules given
-    b.maker.renews renews _ _ behind limit answer bytes said (ap meaning made.source) made.rules
+    b.maker.renews renews _ _ behind limit answer bytes said (ap meaning made.source ∙ rows_mean i c.rows_of-source.result c.rows_of-source.ensures.nav
+    c.rows_of-source.ensures.settings c.rows_of-source.ensures.station) made.rules
     made.renews here
     (text_of_epochs (λ x. x.source.now) (λ x. x.rules)
     (λ x. left_of (epochs_left x.walk.searches) (λ blocks. tube_searches (tube_value x.walk) blocks)
