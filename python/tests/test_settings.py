@@ -19,9 +19,7 @@ SEARCHES = st.builds(
     centre=st.one_of(st.just("header"), THREE),
     renew=st.one_of(st.none(), st.booleans()),
 )
-BOUNDS = st.builds(
-    Bounds, receiver=PAIR, orbit_clock=PAIR, ionosphere=PAIR, troposphere=PAIR, zenith=st.none()
-)
+BOUNDS = st.builds(Bounds, receiver=PAIR, orbit_clock=PAIR, ionosphere=PAIR, troposphere=PAIR, zenith=st.none())
 SETTINGS = st.builds(
     Settings,
     search=SEARCHES,

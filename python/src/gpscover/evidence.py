@@ -53,12 +53,7 @@ Lines = list[tuple[str, str]]  # name, and what is found
 
 SECOND = "second/recheck.py"  # from the top of the repository
 SHEET = "evidence.txt"
-FILES = {
-    "obs": "receiver.obs",
-    "nav": "receiver.nav",
-    "settings": "settings.toml",
-    "log": "receiver.log",
-}
+FILES = {"obs": "receiver.obs", "nav": "receiver.nav", "settings": "settings.toml", "log": "receiver.log"}
 HEAD = "gpscover evidence 1"
 ITSELF = ("program", "second", "version")  # the lines that say who checked
 GREATEST = 200_000  # the greatest epoch number
@@ -182,9 +177,7 @@ def run_make(args: argparse.Namespace) -> None:
     program = str(args.program or own_program())
     folder.mkdir()
     try:
-        lines = fill(
-            folder, (args.obs, args.nav, args.settings, args.log), program, home() / SECOND, options
-        )
+        lines = fill(folder, (args.obs, args.nav, args.settings, args.log), program, home() / SECOND, options)
     except BaseException:
         shutil.rmtree(folder)
         raise
@@ -192,9 +185,7 @@ def run_make(args: argparse.Namespace) -> None:
     print(f"{SHEET} sha256 {checksum(folder / SHEET)}")
 
 
-def fill(
-    folder: Path, paths: Sequence[PathLike], program: str, second: Path, options: Options
-) -> Lines:
+def fill(folder: Path, paths: Sequence[PathLike], program: str, second: Path, options: Options) -> Lines:
     """Puts the files of a bundle and its evidence into a folder. The evidence's lines."""
     for path, name in zip(paths, FILES.values()):
         shutil.copyfile(path, folder / name)
@@ -232,9 +223,7 @@ def refuse_links(folder: Path) -> None:
     never end."""
     for path in sorted(folder.iterdir()):
         if not stat.S_ISREG(path.lstat().st_mode):
-            raise Error(
-                f"{path} isn't a file of the bundle's own, but a link, a folder or a device"
-            )
+            raise Error(f"{path} isn't a file of the bundle's own, but a link, a folder or a device")
 
 
 def strangers(folder: Path) -> Iterator[str]:
@@ -271,9 +260,7 @@ def epoch_number(text: str) -> int:
 def arguments(parser: argparse.ArgumentParser) -> None:
     """The words of the command line."""
     ways = parser.add_subparsers(required=True)
-    make = ways.add_parser(
-        "make", help="copy the files, check the log twice, and write what was found"
-    )
+    make = ways.add_parser("make", help="copy the files, check the log twice, and write what was found")
     check = ways.add_parser("check", help="find all of it anew and compare")
     for way, work in ((make, run_make), (check, run_check)):
         way.add_argument("bundle", metavar="FOLDER")
@@ -283,25 +270,13 @@ def arguments(parser: argparse.ArgumentParser) -> None:
         make.add_argument(name, metavar=name.upper())
     make.add_argument("--track", action="store_true", help="the log is one of `track`")
     make.add_argument(
-        "--from",
-        dest="first",
-        type=epoch_number,
-        default=1,
-        metavar="N",
-        help="the log's first epoch (1)",
+        "--from", dest="first", type=epoch_number, default=1, metavar="N", help="the log's first epoch (1)"
     )
     make.add_argument(
-        "--to",
-        dest="last",
-        type=epoch_number,
-        default=GREATEST,
-        metavar="N",
-        help=f"its last one ({GREATEST})",
+        "--to", dest="last", type=epoch_number, default=GREATEST, metavar="N", help=f"its last one ({GREATEST})"
     )
     check.add_argument("--sha256", metavar="HEX", help=f"the checksum that {SHEET} has to have")
-    check.add_argument(
-        "--other-program", action="store_true", help="let the checkers and versions here be others"
-    )
+    check.add_argument("--other-program", action="store_true", help="let the checkers and versions here be others")
 
 
 def run(args: argparse.Namespace) -> int:

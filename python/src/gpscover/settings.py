@@ -166,9 +166,7 @@ def settings_of(tree: dict[str, Any]) -> Settings:
     unknown = set(tree) - {"search", "signal", "galileo", "motion", "bounds", "satellite"}
     if unknown:
         raise ValueError(f"unknown table {sorted(unknown)[0]}")
-    tables = {
-        name: {key: frozen(value) for key, value in table.items()} for name, table in tree.items()
-    }
+    tables = {name: {key: frozen(value) for key, value in table.items()} for name, table in tree.items()}
     galileo = tables.get("galileo")
     return Settings(
         Search(**tables["search"]),
