@@ -4,19 +4,7 @@
 """
 
 from gpscover.errors import Error, LogError, NumberError
-from gpscover.log import (
-    Box,
-    Epoch,
-    Interval,
-    Kept,
-    Log,
-    Renewal,
-    Row,
-    Rules,
-    Skip,
-    SkipReason,
-    open_log,
-)
+from gpscover.log import Box, Epoch, Interval, Kept, Log, Renewal, Row, Rules, Skip, SkipReason, open_log
 from gpscover.region import Region, region_of
 from gpscover.runs import (
     ProgramError,

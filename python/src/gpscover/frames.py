@@ -19,16 +19,11 @@ if TYPE_CHECKING:
 
 EPOCH_COLUMNS = "epoch time ps mark satellites outliers inner edge out splits".split()
 REGION_COLUMNS = (
-    "east_m north_m up_m clock_low_m clock_high_m volume_m3 latitude_rad longitude_rad height_m"
-    " x_m y_m z_m faces"
+    "east_m north_m up_m clock_low_m clock_high_m volume_m3 latitude_rad longitude_rad height_m" " x_m y_m z_m faces"
 ).split()
 ENDS = [f"{axis}_{end}_um" for end in ("low", "high") for axis in "xyz"]
 BOX_COLUMNS = ["epoch", "time", "inner", *ENDS, "clock_low_um", "clock_high_um"]
-ROW_ENDS = [
-    f"{name}_{end}_um"
-    for name in ("x", "y", "z", "range", "error", "sure")
-    for end in ("low", "high")
-]
+ROW_ENDS = [f"{name}_{end}_um" for name in ("x", "y", "z", "range", "error", "sure") for end in ("low", "high")]
 ROW_COLUMNS = ["epoch", "time", "satellite", *ROW_ENDS]
 
 
@@ -38,8 +33,7 @@ def library() -> Any:
         import pandas
     except ImportError:
         raise Error(
-            f"{sys.executable} has no pandas; Debian: apt-get install python3-pandas,"
-            " then /usr/bin/python3 .."
+            f"{sys.executable} has no pandas; Debian: apt-get install python3-pandas," " then /usr/bin/python3 .."
         ) from None
     return pandas
 
@@ -84,19 +78,14 @@ def boxes_frame(log: Log) -> pandas.DataFrame:
 def rows_frame(log: Log) -> pandas.DataFrame:
     """A row a usable satellite of each epoch, in um: its spans over the search box."""
     rows = (
-        (epoch.index, epoch.time, row.satellite, *sum(row.place, ()), *row.range, *row.error)
-        + tuple(row.sure)
+        (epoch.index, epoch.time, row.satellite, *sum(row.place, ()), *row.range, *row.error) + tuple(row.sure)
         for epoch in log
         for row in epoch.rows
     )
     return frame_of(ROW_COLUMNS, rows)
 
 
-KINDS: dict[str, Callable[[Log], Any]] = {
-    "epochs": epochs_frame,
-    "boxes": boxes_frame,
-    "rows": rows_frame,
-}
+KINDS: dict[str, Callable[[Log], Any]] = {"epochs": epochs_frame, "boxes": boxes_frame, "rows": rows_frame}
 
 
 def write_frame(frame: Any, path: str) -> None:

@@ -84,9 +84,7 @@ def in_search_box(epoch: Epoch, point: Vector) -> bool:
     return epoch.search is not None and epoch.search.contains(point)
 
 
-def farthest_along_ground(
-    centres: list[Vector], halves: list[Vector], east: Vector, north: Vector
-) -> float:
+def farthest_along_ground(centres: list[Vector], halves: list[Vector], east: Vector, north: Vector) -> float:
     """How far the farthest of the boxes' corners is from the origin along the ground.
 
     A box is seen from above as its middle c and the half sides v of three directions; its corners
@@ -97,12 +95,7 @@ def farthest_along_ground(
     for centre, half in zip(centres, halves):
         x, y = dot(east, centre), dot(north, centre)
         (a, b), (c, d), (e, f) = ((size * east[k], size * north[k]) for k, size in enumerate(half))
-        for p, q in (
-            (a + c + e, b + d + f),
-            (a + c - e, b + d - f),
-            (a - c + e, b - d + f),
-            (a - c - e, b - d - f),
-        ):
+        for p, q in ((a + c + e, b + d + f), (a + c - e, b + d - f), (a - c + e, b - d + f), (a - c - e, b - d - f)):
             most = max(most, x * x + y * y + p * p + q * q + 2 * abs(x * p + y * q))
     return math.sqrt(most)
 
@@ -123,9 +116,7 @@ class Corners:
 
     def pair(self) -> Pair:
         """The farthest corner along the ground, and the farthest one up or down."""
-        return farthest_along_ground(
-            self.centres, self.halves, self.east, self.north
-        ), self.farthest(self.up)
+        return farthest_along_ground(self.centres, self.halves, self.east, self.north), self.farthest(self.up)
 
     def along_across(self, azimuth: float) -> Pair:
         """The farthest corners along an azimuth in radians, and across it along the ground."""
@@ -142,14 +133,10 @@ def apart(place: Vector, point: Vector) -> Pair:
     return math.hypot(dot(east, way), dot(north, way)), abs(dot(up, way))
 
 
-def numbers_of(
-    epoch: Epoch, region: Region, place: Vector, azimuth: float | None = None
-) -> Numbers:
+def numbers_of(epoch: Epoch, region: Region, place: Vector, azimuth: float | None = None) -> Numbers:
     """The numbers of an epoch that has a region, for a known place in m."""
     corners, middle = Corners(epoch, place), region.middle()
-    found = Numbers(
-        is_held(epoch, place), *corners.pair(), apart(place, middle), Corners(epoch, middle).pair()
-    )
+    found = Numbers(is_held(epoch, place), *corners.pair(), apart(place, middle), Corners(epoch, middle).pair())
     if azimuth is not None:
         found.azimuth = azimuth
         found.along, found.across = corners.along_across(azimuth)
@@ -242,11 +229,7 @@ class Judge:
     def warnings(self) -> Iterator[str]:
         """What must not be passed over."""
         if self.lost:
-            where = (
-                f", in {self.outside_box} of these since it is outside the search box"
-                if self.outside_box
-                else ""
-            )
+            where = f", in {self.outside_box} of these since it is outside the search box" if self.outside_box else ""
             yield (
                 f"in {len(self.lost)} of {self.regions} regions the known place isn't in a kept"
                 f" box{where}; the first is epoch {self.lost[0]}: more satellites than allowed"

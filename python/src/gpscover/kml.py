@@ -40,8 +40,7 @@ def head() -> str:
         for name, line, area in dict.fromkeys(STYLES.values())
     )
     return (
-        '<?xml version="1.0" encoding="UTF-8"?>\n<kml'
-        f' xmlns="http://www.opengis.net/kml/2.2"><Document>\n{styles}'
+        '<?xml version="1.0" encoding="UTF-8"?>\n<kml' f' xmlns="http://www.opengis.net/kml/2.2"><Document>\n{styles}'
     )
 
 
@@ -71,9 +70,7 @@ def ground_ring(region: Region, corners: list[Flat]) -> list[tuple[float, float]
 
 def polygon(ring: list[tuple[float, float]], height: float) -> str:
     """A ring of (latitude, longitude) in degrees at a height in m."""
-    points = " ".join(
-        f"{longitude:.9f},{latitude:.9f},{height:.3f}" for latitude, longitude in ring
-    )
+    points = " ".join(f"{longitude:.9f},{latitude:.9f},{height:.3f}" for latitude, longitude in ring)
     return (
         "<Polygon><altitudeMode>absolute</altitudeMode><outerBoundaryIs><LinearRing><coordinates>"
         f"{points}</coordinates></LinearRing></outerBoundaryIs></Polygon>"
@@ -93,11 +90,7 @@ def geometry(epoch: Epoch, region: Region) -> str:
     """The outline of a region at its least and its greatest height."""
     east, north, _ = region.axes
     ring = ground_ring(region, outline(epoch.boxes, region.origin, east, north))
-    return (
-        "<MultiGeometry>"
-        + "".join(polygon(ring, height) for height in heights(region))
-        + "</MultiGeometry>"
-    )
+    return "<MultiGeometry>" + "".join(polygon(ring, height) for height in heights(region)) + "</MultiGeometry>"
 
 
 def words(epoch: Epoch, region: Region | None, mark: str) -> str:
@@ -108,10 +101,7 @@ def words(epoch: Epoch, region: Region | None, mark: str) -> str:
     east, north, up = (upward(width) for width in region.widths())
     low, high = heights(region)
     cut = f", reaches the search box at {' '.join(region.faces)}" if region.faces else ""
-    return (
-        f"{said}, east {east:.1f} m, north {north:.1f} m, up {up:.1f} m, height {low:.1f} to"
-        f" {high:.1f} m{cut}"
-    )
+    return f"{said}, east {east:.1f} m, north {north:.1f} m, up {up:.1f} m, height {low:.1f} to" f" {high:.1f} m{cut}"
 
 
 def placemark(epoch: Epoch, region: Region | None, mark: str) -> str:

@@ -155,11 +155,7 @@ class Box(NamedTuple):
     def contains(self, point: Point) -> bool:
         """Whether a point x, y, z in metres, taken to the nearest um, lies in it."""
         x, y, z = (round(part * UM_PER_M) for part in point)
-        return (
-            self.x_low <= x <= self.x_high
-            and self.y_low <= y <= self.y_high
-            and self.z_low <= z <= self.z_high
-        )
+        return self.x_low <= x <= self.x_high and self.y_low <= y <= self.y_high and self.z_low <= z <= self.z_high
 
     def to_metres(self) -> tuple[Point, Point]:
         """The low and the high corner in metres."""
@@ -412,9 +408,7 @@ def fold_steps(epoch: Epoch, root: Box, lines: Iterator[str], renews: bool) -> N
     raise EOFError
 
 
-def read_block(
-    words: list[str], outliers: int, lines: Iterator[str], renews: bool
-) -> tuple[Epoch, str | None]:
+def read_block(words: list[str], outliers: int, lines: Iterator[str], renews: bool) -> tuple[Epoch, str | None]:
     """The epoch that a first line begins, and the line behind it, which is None at the end."""
     index, ps, satellites = wholes(words[1:], 3)
     if not 0 <= ps < LATEST_PS:
@@ -455,9 +449,7 @@ class Searches:
         if root is None:
             return
         first = self.first = self.first or root
-        within = all(a <= b for a, b in zip(first.low, root.low)) and all(
-            a >= b for a, b in zip(first.high, root.high)
-        )
+        within = all(a <= b for a, b in zip(first.low, root.low)) and all(a >= b for a, b in zip(first.high, root.high))
         epoch.search = first if within else root
         self.moved = self.moved or epoch.search != root
         epoch.moves = self.moved

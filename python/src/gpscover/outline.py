@@ -41,10 +41,7 @@ def ends_along(points: Iterable[Corner], axis: int) -> set[Corner]:
     for point in points:
         line = point[:axis] + point[axis + 1 :]
         low, high = lines.get(line, (point, point))
-        lines[line] = (
-            point if point[axis] < low[axis] else low,
-            point if point[axis] > high[axis] else high,
-        )
+        lines[line] = (point if point[axis] < low[axis] else low, point if point[axis] > high[axis] else high)
     return {point for both in lines.values() for point in both}
 
 
@@ -61,9 +58,7 @@ def outer_corners(boxes: Iterable[Box]) -> set[Corner]:
     return ends_along(ends_along(points, 1), 2)
 
 
-def outline_of(
-    points: Iterable[Corner], origin: Vector, right: Vector, upward: Vector
-) -> list[Flat]:
+def outline_of(points: Iterable[Corner], origin: Vector, right: Vector, upward: Vector) -> list[Flat]:
     """The convex hull of points in um, in the plane of two unit vectors, in m from an origin."""
     p, q, r = (round(value * UM_PER_M) for value in origin)
     (a, b, c), (d, e, f) = ([part / UM_PER_M for part in vector] for vector in (right, upward))

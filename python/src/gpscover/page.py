@@ -77,9 +77,7 @@ MARK_WORDS = {
         " outside the search box."
     ),
     "lost": "The track ends here: no position fits.",
-    "reaches": (
-        "A kept box lies on the named faces of the search box, so the region may go on outside."
-    ),
+    "reaches": ("A kept box lies on the named faces of the search box, so the region may go on outside."),
 }
 
 
@@ -121,9 +119,7 @@ def hulls_of_groups(boxes: list[Box]) -> list[Box]:
     while True:
         groups: dict[tuple[int, ...], list[Box]] = {}
         for box in boxes:
-            cell = tuple(
-                (box[k] + box[k + 3] - 2 * hull[k]) * grid // (2 * sides[k] + 1) for k in range(3)
-            )
+            cell = tuple((box[k] + box[k + 3] - 2 * hull[k]) * grid // (2 * sides[k] + 1) for k in range(3))
             groups.setdefault(cell, []).append(box)
         if len(groups) <= MOST_BOXES:
             return [hull_of(group) for group in groups.values()]
@@ -175,10 +171,7 @@ def satellites_of(epoch: Epoch, place: Vector) -> Iterator[list[Any]]:
         there = [(low + high) / 2 / UM_PER_M for low, high in row.place]
         angles: list[float | None] = [None, None]
         if there != list(place):
-            angles = [
-                round(math.degrees(angle), 2)
-                for angle in (elevation(place, there), azimuth(place, there))
-            ]
+            angles = [round(math.degrees(angle), 2) for angle in (elevation(place, there), azimuth(place, there))]
         yield [row.satellite, *angles, *(metres(end) for end in row.error + row.sure)]
 
 
@@ -190,10 +183,7 @@ def rounded(points: Iterable[Flat], digits: int) -> list[list[float]]:
 def outlines_of(epoch: Epoch, region: Region) -> list[list[Flat]]:
     """The outlines of all kept boxes in m: east and north, east and up, north and up."""
     corners, (east, north, up) = outer_corners(epoch.boxes), region.axes
-    return [
-        outline_of(corners, region.origin, *pair)
-        for pair in ((east, north), (east, up), (north, up))
-    ]
+    return [outline_of(corners, region.origin, *pair) for pair in ((east, north), (east, up), (north, up))]
 
 
 def detail(epoch: Epoch, region: Region | None, mark: str) -> str:
@@ -203,10 +193,7 @@ def detail(epoch: Epoch, region: Region | None, mark: str) -> str:
         place = epoch.root.centre
     said: dict[str, Any] = {
         "satellites": list(satellites_of(epoch, place)) if place else [],
-        "skips": [
-            [it.satellite, it.reason.words + (it.field and f" (field {it.field})")]
-            for it in epoch.skips
-        ],
+        "skips": [[it.satellite, it.reason.words + (it.field and f" (field {it.field})")] for it in epoch.skips],
         "place": "the middle of the region" if region else "the middle of the search box",
     }
     values = dict(zip(COLUMNS, csv_line(epoch, region, mark)))
@@ -241,9 +228,7 @@ class Collected:
         cells = text_cells(epoch, region)
         position = len(self.rows)
         self.rows.append(
-            cells
-            + [""] * (len(CELLS) - 2 - len(cells))
-            + [mark, " ".join(region.faces) if region else ""]
+            cells + [""] * (len(CELLS) - 2 - len(cells)) + [mark, " ".join(region.faces) if region else ""]
         )
         self.size += len(to_json(self.rows[-1]))
         if self.details.wants(position):
@@ -271,10 +256,7 @@ class Collected:
                 " MB: --from and --to make a page of some epochs"
             )
         if self.details.every > 1:
-            yield (
-                "sky, outlines, errors and skipped satellites are those of one epoch in"
-                f" {self.details.every}"
-            )
+            yield ("sky, outlines, errors and skipped satellites are those of one epoch in" f" {self.details.every}")
         numbers = [int(row[0]) for row in self.rows]
         gaps = [(a, b) for a, b in zip(numbers, numbers[1:]) if b != a + 1]
         if gaps:
@@ -284,9 +266,7 @@ class Collected:
             )
 
 
-def collect(
-    paths: Sequence[PathLike], first: float, last: float, room: int
-) -> tuple[Collected, str | None]:
+def collect(paths: Sequence[PathLike], first: float, last: float, room: int) -> tuple[Collected, str | None]:
     """What the logs have of the epochs from a number to another, and the line for a log that ends
     too early, or None."""
     collected = Collected(room)
@@ -304,26 +284,15 @@ def collect(
 
 def settings_differ(text: str, rules: Rules) -> Iterator[str]:
     """A line for each rule of the settings that isn't the log's."""
-    wanted = (
-        ("outliers", rules.outliers),
-        ("bisections", rules.splits),
-        ("width", rules.width // 1000),
-    )
+    wanted = (("outliers", rules.outliers), ("bisections", rules.splits), ("width", rules.width // 1000))
     for key, value in wanted:
         found = re.search(rf"(?m)^\s*{key}\s*=\s*([0-9](?:_?[0-9]){{0,18}})\b", text)
         if found and int(found[1]) != value:
-            yield (
-                f"these settings have {key} = {found[1]}, and the log has {value}: they aren't"
-                " those of the log"
-            )
+            yield (f"these settings have {key} = {found[1]}, and the log has {value}: they aren't" " those of the log")
 
 
 def page_data(
-    args: argparse.Namespace,
-    collected: Collected,
-    rules: Rules,
-    settings: str | None,
-    broken: str | None,
+    args: argparse.Namespace, collected: Collected, rules: Rules, settings: str | None, broken: str | None
 ) -> dict[str, Any]:
     """What the page's script needs, but for details and boxes."""
     warnings = [f"{broken}; the page has the epochs before"] if broken else []
@@ -331,10 +300,7 @@ def page_data(
     return {
         "logs": args.log,
         "rules": {"q": rules.outliers, "splits": rules.splits, "width": metres(rules.width)},
-        "lines": [
-            collected.totals.line(),
-            *(f"warning: {each}" for each in collected.totals.warnings()),
-        ],
+        "lines": [collected.totals.line(), *(f"warning: {each}" for each in collected.totals.warnings())],
         "warnings": warnings,
         "notes": list(collected.notes()),
         "every": {"details": collected.details.every, "boxes": collected.boxes.every},
@@ -359,26 +325,17 @@ def page_text(title: str, data: dict[str, Any], collected: Collected, parts: dic
     details, boxes = by_position(collected.details), by_position(collected.boxes)
     body = f'{head},"details":{details},"boxes":{boxes}}}'
     return parts["page.html"].format(
-        title=html.escape(title),
-        css=parts["page.css"],
-        data=body,
-        plotly=parts["plotly"],
-        script=parts["page.js"],
+        title=html.escape(title), css=parts["page.css"], data=body, plotly=parts["plotly"], script=parts["page.js"]
     )
 
 
 def make_page(args: argparse.Namespace) -> str | None:
     """Reads the logs and writes the page. The line for a log that ends too early, or None."""
     objects, script = tools()
-    parts = {
-        name: (PARTS / name).read_text(encoding="utf-8")
-        for name in ("page.html", "page.css", "page.js")
-    }
+    parts = {name: (PARTS / name).read_text(encoding="utf-8") for name in ("page.html", "page.css", "page.js")}
     parts["plotly"] = script
     rules = rules_of(args.log[0])
-    settings = (
-        Path(args.settings).read_text(encoding="utf-8", errors="replace") if args.settings else None
-    )
+    settings = Path(args.settings).read_text(encoding="utf-8", errors="replace") if args.settings else None
     room = PAGE_LIMIT - sum(len(part.encode()) for part in parts.values())
     collected, broken = collect(args.log, args.first or 0, args.last or math.inf, room)
     data = page_data(args, collected, rules, settings, broken)
@@ -408,17 +365,11 @@ def number(word: str) -> int:
 
 def arguments(parser: argparse.ArgumentParser) -> None:
     """The words of the command line."""
-    parser.add_argument(
-        "log", metavar="LOG", nargs="+", help="a log, or the logs of a file's parts in their order"
-    )
+    parser.add_argument("log", metavar="LOG", nargs="+", help="a log, or the logs of a file's parts in their order")
     parser.add_argument("out", metavar="OUT.html", type=page_name)
     parser.add_argument("--settings", metavar="FILE", help="the settings of the run, to be shown")
-    parser.add_argument(
-        "--from", type=number, dest="first", metavar="N", help="the first epoch that is taken"
-    )
-    parser.add_argument(
-        "--to", type=number, dest="last", metavar="N", help="the last epoch that is taken"
-    )
+    parser.add_argument("--from", type=number, dest="first", metavar="N", help="the first epoch that is taken")
+    parser.add_argument("--to", type=number, dest="last", metavar="N", help="the last epoch that is taken")
     parser.add_argument("--title", metavar="TEXT")
 
 
@@ -430,6 +381,4 @@ def run(args: argparse.Namespace) -> int:
     return 0
 
 
-COMMAND = Command(
-    "page", "one HTML file of a log, to look at in a browser", arguments, run, __doc__
-)
+COMMAND = Command("page", "one HTML file of a log, to look at in a browser", arguments, run, __doc__)

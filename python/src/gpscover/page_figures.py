@@ -82,12 +82,7 @@ def time_figure(go: Any) -> Figure:
                 name=name,
                 legendgroup=name,
                 hovertemplate="epoch %{text}<br>%{x}",
-                marker={
-                    "symbol": symbol,
-                    "color": colour,
-                    "size": 9,
-                    "line": {"width": 2, "color": colour},
-                },
+                marker={"symbol": symbol, "color": colour, "size": 9, "line": {"width": 2, "color": colour}},
             )
         )
         for name, (symbol, colour) in MARKS.items()
@@ -98,8 +93,7 @@ def time_figure(go: Any) -> Figure:
 def solid_figure(go: Any) -> Figure:
     """The boxes of a region in three dimensions, at one scale."""
     axes: Figure = {
-        f"{axis}axis": {"title": {"text": f"{name}, m"}}
-        for axis, name in zip("xyz", ("east", "north", "up"))
+        f"{axis}axis": {"title": {"text": f"{name}, m"}} for axis, name in zip("xyz", ("east", "north", "up"))
     }
     layout = go.Layout(
         margin={"l": 0, "r": 0, "t": 10, "b": 0},
@@ -116,31 +110,19 @@ def solid_figure(go: Any) -> Figure:
     )
     meshes = [
         plain(
-            go.Mesh3d(
-                name=name,
-                color=colour,
-                opacity=opacity,
-                flatshading=True,
-                showlegend=True,
-                hovertemplate=hover,
-            )
+            go.Mesh3d(name=name, color=colour, opacity=opacity, flatshading=True, showlegend=True, hovertemplate=hover)
         )
         for name, colour, opacity in kinds
     ]
     wire = go.Scatter3d(
-        mode="lines",
-        line={"color": "rgba(70, 70, 70, 0.35)", "width": 1},
-        hoverinfo="skip",
-        name="their sides",
+        mode="lines", line={"color": "rgba(70, 70, 70, 0.35)", "width": 1}, hoverinfo="skip", name="their sides"
     )
     return {"layout": plain(layout), "meshes": meshes, "wire": plain(wire)}
 
 
 def flat_figure(go: Any, title: str, across: str, upward: str) -> Figure:
     """The outline of a region as seen along an axis, at one scale."""
-    layout = go.Layout(
-        title=left(title), margin={"l": 60, "r": 10, "t": 36, "b": 44}, font=SMALL, showlegend=False
-    )
+    layout = go.Layout(title=left(title), margin={"l": 60, "r": 10, "t": 36, "b": 44}, font=SMALL, showlegend=False)
     layout.xaxis = {"title": {"text": f"{across}, m"}}
     layout.yaxis = {"title": {"text": f"{upward}, m"}, "scaleanchor": "x"}
     trace = go.Scatter(
@@ -156,9 +138,7 @@ def flat_figure(go: Any, title: str, across: str, upward: str) -> Figure:
 def sky_figure(go: Any) -> Figure:
     """The sky: the zenith in the middle, the horizon at the rim, north above and east to the
     right."""
-    layout = go.Layout(
-        title=left("sky"), margin={"l": 40, "r": 40, "t": 46, "b": 30}, font=SMALL, showlegend=False
-    )
+    layout = go.Layout(title=left("sky"), margin={"l": 40, "r": 40, "t": 46, "b": 30}, font=SMALL, showlegend=False)
     layout.polar.angularaxis = {
         "direction": "clockwise",
         "rotation": 90,
@@ -176,9 +156,7 @@ def sky_figure(go: Any) -> Figure:
         marker={"size": 9, "color": LINE_COLOUR},
         textposition="top center",
         cliponaxis=False,
-        hovertemplate=(
-            "%{text}<br>%{customdata:.1f}° high<br>azimuth %{theta:.1f}°<extra></extra>"
-        ),
+        hovertemplate=("%{text}<br>%{customdata:.1f}° high<br>azimuth %{theta:.1f}°<extra></extra>"),
     )
     return {"layout": plain(layout), "satellites": plain(trace)}
 
@@ -196,19 +174,8 @@ def errors_figure(go: Any) -> Figure:
     layout.yaxis = {"type": "category", "autorange": "reversed"}
     hover = "%{y}: %{customdata[0]} to %{customdata[1]} m<extra>%{fullData.name}</extra>"
     bars = [
-        plain(
-            go.Bar(
-                orientation="h",
-                name=name,
-                marker={"color": colour},
-                width=width,
-                hovertemplate=hover,
-            )
-        )
-        for name, colour, width in (
-            ("somewhere in the box", "#9dc3e6", 0.7),
-            ("at every point", LINE_COLOUR, 0.3),
-        )
+        plain(go.Bar(orientation="h", name=name, marker={"color": colour}, width=width, hovertemplate=hover))
+        for name, colour, width in (("somewhere in the box", "#9dc3e6", 0.7), ("at every point", LINE_COLOUR, 0.3))
     ]
     return {"layout": plain(layout), "bars": bars}
 
@@ -216,17 +183,11 @@ def errors_figure(go: Any) -> Figure:
 def map_figure(go: Any) -> Figure:
     """The regions' outlines over a plain grid of latitude and longitude."""
     layout = go.Layout(
-        margin={"l": 90, "r": 12, "t": 12, "b": 60},
-        font=SMALL,
-        showlegend=False,
-        hovermode="closest",
-        uirevision="map",
+        margin={"l": 90, "r": 12, "t": 12, "b": 60}, font=SMALL, showlegend=False, hovermode="closest", uirevision="map"
     )
     layout.xaxis = {"title": {"text": "longitude, degrees"}, "tickformat": ".5f", "nticks": 6}
     layout.yaxis = {"title": {"text": "latitude, degrees"}, "tickformat": ".5f", "scaleanchor": "x"}
-    outlines = go.Scatter(
-        mode="lines", line={"color": LINE_COLOUR, "width": 1}, opacity=0.5, hoverinfo="skip"
-    )
+    outlines = go.Scatter(mode="lines", line={"color": LINE_COLOUR, "width": 1}, opacity=0.5, hoverinfo="skip")
     middles = go.Scatter(
         mode="markers",
         marker={"size": 6, "color": LINE_COLOUR},
@@ -239,12 +200,7 @@ def map_figure(go: Any) -> Figure:
         hoverinfo="skip",
         fillcolor="rgba(244, 177, 131, 0.6)",
     )
-    return {
-        "layout": plain(layout),
-        "outlines": plain(outlines),
-        "middles": plain(middles),
-        "chosen": plain(chosen),
-    }
+    return {"layout": plain(layout), "outlines": plain(outlines), "middles": plain(middles), "chosen": plain(chosen)}
 
 
 def figures(go: Any) -> dict[str, Figure]:

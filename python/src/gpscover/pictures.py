@@ -58,15 +58,7 @@ from gpscover.integrity import Judge, Limits, Numbers, alert_limit
 from gpscover.log import PS_PER_MS, UM_PER_M, Box, Epoch, PathLike, calendar, epochs
 from gpscover.outline import Flat, convex_hull, outline
 from gpscover.places import Meetings, read_places
-from gpscover.region import (
-    Extent,
-    Region,
-    region_of,
-    reaches,
-    region_or_none,
-    touched_faces,
-    upward,
-)
+from gpscover.region import Extent, Region, region_of, reaches, region_or_none, touched_faces, upward
 from gpscover.shapes import corners
 from gpscover.zones import Corners, Reach, Zone, read_zones
 
@@ -74,12 +66,7 @@ T = TypeVar("T")
 Judged = tuple[Numbers, bool]  # of an epoch, and whether the search box cuts its region
 
 EDGE_COLOUR, INNER_COLOUR, PLACE_COLOUR, BAND_COLOUR = "#f4b183", "#548235", "#c00000", "#9dc3e6"
-CUT_COLOUR, EMPTY_COLOUR, LIMIT_COLOUR, EDGE_LINE_COLOUR = (
-    "#b36bd4",
-    "#d9d9d9",
-    "#404040",
-    "#1f5f99",
-)
+CUT_COLOUR, EMPTY_COLOUR, LIMIT_COLOUR, EDGE_LINE_COLOUR = ("#b36bd4", "#d9d9d9", "#404040", "#1f5f99")
 MANY_BOXES = 500  # in an SVG more than these are drawn as dots, so that the file stays small
 DIRECTIONS = (("east", "north"), ("east", "up"))
 LONGEST_IN = 6.5  # the longest side of what is drawn, in inches
@@ -117,10 +104,7 @@ def box_polygons(boxes: list[Box], origin: Vector, first: Vector, second: Vector
     base = numpy.array([round(value * UM_PER_M) for value in origin] * 2, dtype=numpy.int64)
     ends = (ends - base) / UM_PER_M
     plane = numpy.array([first, second]).T  # 3 x 2: the directions of x, y and z in the plane
-    plane = (
-        plane
-        * numpy.where((plane[:, 1] < 0) | ((plane[:, 1] == 0) & (plane[:, 0] < 0)), -1, 1)[:, None]
-    )
+    plane = plane * numpy.where((plane[:, 1] < 0) | ((plane[:, 1] == 0) & (plane[:, 0] < 0)), -1, 1)[:, None]
     order = numpy.argsort(numpy.arctan2(plane[:, 1], plane[:, 0]))
     sides = (ends[:, 3:] - ends[:, :3])[:, order, None] * plane[order][None]  # boxes x 3 x 2
     centres = (ends[:, :3] + ends[:, 3:]) / 2 @ numpy.array([first, second]).T
@@ -135,8 +119,7 @@ def box_kinds(epoch: Epoch) -> tuple[tuple[list[Box], str, str], ...]:
     search = epoch.search
     cut = {box for box in epoch.boxes if search is not None and touched_faces(box, search)}
     edge, inner = (
-        [kept.box for kept in epoch.kept if kept.inner == it and kept.box not in cut]
-        for it in (False, True)
+        [kept.box for kept in epoch.kept if kept.inner == it and kept.box not in cut] for it in (False, True)
     )
     return (
         (sorted(cut), CUT_COLOUR, "boxes on a face of the search box"),
@@ -146,12 +129,7 @@ def box_kinds(epoch: Epoch) -> tuple[tuple[list[Box], str, str], ...]:
 
 
 def draw_boxes(
-    axes: Any,
-    collections: Any,
-    epoch: Epoch,
-    region: Region,
-    pair: tuple[str, str],
-    is_vector: bool,
+    axes: Any, collections: Any, epoch: Epoch, region: Region, pair: tuple[str, str], is_vector: bool
 ) -> None:
     """Draws the kept boxes of an epoch in the plane of two directions."""
     vectors = dict(zip(("east", "north", "up"), region.axes))
@@ -185,11 +163,7 @@ def region_title(epoch: Epoch, region: Region) -> str:
     A third where the box cuts it.
     """
     east, north, up = (upward(width) for width in region.widths())
-    cut = (
-        f"\nreaches the search box at {' '.join(region.faces)}: it may go on outside"
-        if region.faces
-        else ""
-    )
+    cut = f"\nreaches the search box at {' '.join(region.faces)}: it may go on outside" if region.faces else ""
     return (
         f"epoch {epoch.index}, {calendar(epoch.ps)} GPS time, {epoch.satellites} satellites, q ="
         f" {epoch.outliers}, {epoch.splits:,} splits\neast {east:.1f} m, north {north:.1f} m, up"
@@ -207,9 +181,7 @@ def panels_at_one_scale(pyplot: Any, shown: dict[str, Extent]) -> tuple[Any, lis
     size = (max(left + 2 * wide + gap + 0.2, 6.0), bottom + max(heights) + above)
     figure = pyplot.figure(figsize=size)
     lefts = (left, left + wide + gap)
-    places = [
-        (x / size[0], bottom / size[1], wide / size[0], y / size[1]) for x, y in zip(lefts, heights)
-    ]
+    places = [(x / size[0], bottom / size[1], wide / size[0], y / size[1]) for x, y in zip(lefts, heights)]
     return figure, [figure.add_axes(place) for place in places]
 
 
@@ -223,15 +195,7 @@ def draw_region(epoch: Epoch, place: Vector | None, out: str, note: str | None) 
     for axes, pair in zip(both, DIRECTIONS):
         draw_boxes(axes, collections, epoch, region, pair, out.endswith(".svg"))
         if place is not None:
-            axes.plot(
-                [0],
-                [0],
-                "+",
-                color=PLACE_COLOUR,
-                markersize=12,
-                markeredgewidth=1.8,
-                label="known place",
-            )
+            axes.plot([0], [0], "+", color=PLACE_COLOUR, markersize=12, markeredgewidth=1.8, label="known place")
         axes.set_xlim(shown["east"])
         axes.set_ylim(shown[pair[1]])
         axes.grid(alpha=0.3)
@@ -254,10 +218,7 @@ def chosen_epoch(path: PathLike, index: int) -> Epoch:
     for epoch in epochs(path):
         if epoch.index == index:
             if epoch.few or not epoch.kept:
-                raise Error(
-                    f"epoch {index} of {path} has no region: it is"
-                    f" {'few' if epoch.few else 'empty'}"
-                )
+                raise Error(f"epoch {index} of {path} has no region: it is" f" {'few' if epoch.few else 'empty'}")
             return epoch
     raise Error(f"{path} has no epoch {index}")
 
@@ -346,10 +307,7 @@ class Course:
 
     def title(self) -> str:
         """How many epochs there are, and how many have a colour of their own."""
-        return (
-            f"{len(self.times)} epochs; {sum(self.cut)} reach the search box, {sum(self.empty)} are"
-            " empty"
-        )
+        return f"{len(self.times)} epochs; {sum(self.cut)} reach the search box, {sum(self.empty)} are" " empty"
 
 
 def edges_of(times: list[float]) -> list[Extent]:
@@ -361,40 +319,27 @@ def edges_of(times: list[float]) -> list[Extent]:
     return list(zip(starts, [*middles, 2 * times[-1] - middles[-1]]))
 
 
-def bands(
-    edges: list[Extent], spans: list[Extent], wanted: Iterable[bool]
-) -> list[tuple[float, ...]]:
+def bands(edges: list[Extent], spans: list[Extent], wanted: Iterable[bool]) -> list[tuple[float, ...]]:
     """The corners of the wanted epochs' bands, with gaps between them where one isn't wanted: x,
     low, high."""
     points: list[tuple[float, float, float]] = []
     for (start, end), (low, high), is_wanted in zip(edges, spans, wanted):
-        points += (
-            [(start, low, high), (end, low, high)] if is_wanted else [(start, math.nan, math.nan)]
-        )
+        points += [(start, low, high), (end, low, high)] if is_wanted else [(start, math.nan, math.nan)]
     return list(zip(*points))
 
 
 def draw_bands(axes: Any, course: Course, edges: list[Extent], spans: list[Extent]) -> None:
     """Draws the extents along one axis, and where there are none."""
     whole = [not cut for cut in course.cut]
-    axes.fill_between(
-        *bands(edges, spans, whole), color=BAND_COLOUR, linewidth=0, label="the region's extents"
-    )
+    axes.fill_between(*bands(edges, spans, whole), color=BAND_COLOUR, linewidth=0, label="the region's extents")
     if any(course.cut):
         axes.fill_between(
-            *bands(edges, spans, course.cut),
-            color=CUT_COLOUR,
-            linewidth=0,
-            label="cut by the search box",
+            *bands(edges, spans, course.cut), color=CUT_COLOUR, linewidth=0, label="cut by the search box"
         )
     if any(course.empty):
         everywhere = bands(edges, [(0, 1)] * len(edges), course.empty)
         axes.fill_between(
-            *everywhere,
-            color=EMPTY_COLOUR,
-            linewidth=0,
-            transform=axes.get_xaxis_transform(),
-            label="no position fits",
+            *everywhere, color=EMPTY_COLOUR, linewidth=0, transform=axes.get_xaxis_transform(), label="no position fits"
         )
 
 
@@ -408,11 +353,7 @@ def draw_course(course: Course, out: str, note: str | None) -> None:
         draw_bands(axes, course, edges, [extents[k] for extents in course.extents])
         if course.meetings.places:
             axes.plot(
-                times,
-                [known[k] for known in course.known],
-                color=PLACE_COLOUR,
-                linewidth=1,
-                label="known places",
+                times, [known[k] for known in course.known], color=PLACE_COLOUR, linewidth=1, label="known places"
             )
         axes.set_ylabel(f"{name}, m")
         axes.grid(alpha=0.3)
@@ -535,19 +476,10 @@ def draw_track(tube: Tube, beside: Tube | None, out: str, note: str | None) -> N
     draw_above(above, tube)
     for k, name in enumerate(("east", "north", "up")):
         axes = figure.add_subplot(grid[k, 1])
-        for other, colour, label in (
-            (beside, CUT_COLOUR, "the other log"),
-            (tube, EDGE_LINE_COLOUR, "this log"),
-        ):
+        for other, colour, label in ((beside, CUT_COLOUR, "the other log"), (tube, EDGE_LINE_COLOUR, "this log")):
             if other is not None:
                 times = [time - tube.times[0] for time in other.times]
-                axes.plot(
-                    times,
-                    [widths[k] for widths in other.widths],
-                    color=colour,
-                    linewidth=1.2,
-                    label=label,
-                )
+                axes.plot(times, [widths[k] for widths in other.widths], color=colour, linewidth=1.2, label=label)
         axes.set_ylim(bottom=0)
         axes.set_ylabel(f"{name}, m")
         axes.grid(alpha=0.3)
@@ -614,24 +546,12 @@ class Fenced:
 
 def draw_fence(axes: Any, fenced: Fenced, number: int) -> None:
     """Draws a zone and the regions in the colours of what they say of it."""
-    of_each = [
-        (ring, answers[number])
-        for ring, answers in zip(fenced.rings, fenced.answers)
-        if ring is not None
-    ]
+    of_each = [(ring, answers[number]) for ring, answers in zip(fenced.rings, fenced.answers) if ring is not None]
     for ring, answer in some_of(of_each):
-        axes.fill(
-            *zip(*ring),
-            facecolor=ANSWER_COLOURS[answer],
-            edgecolor=LIMIT_COLOUR,
-            linewidth=0.4,
-            alpha=0.6,
-        )
+        axes.fill(*zip(*ring), facecolor=ANSWER_COLOURS[answer], edgecolor=LIMIT_COLOUR, linewidth=0.4, alpha=0.6)
     ring = fenced.ring_of(fenced.fences[number])
     if ring:
-        axes.fill(
-            *zip(*ring), facecolor="none", edgecolor=PLACE_COLOUR, linewidth=1.4, linestyle="--"
-        )
+        axes.fill(*zip(*ring), facecolor="none", edgecolor=PLACE_COLOUR, linewidth=1.4, linestyle="--")
     if fenced.known:
         axes.plot(*zip(*fenced.known), color=EDGE_LINE_COLOUR, linewidth=1)
     axes.set_aspect("equal", adjustable="datalim")
@@ -647,9 +567,7 @@ def draw_fences(fenced: Fenced, out: str, note: str | None) -> None:
     count = len(fenced.fences)
     abreast = min(count, PANELS_ABREAST)
     rows = -(-count // abreast)
-    figure, panels = pyplot.subplots(
-        rows, abreast, figsize=(1 + 4.2 * abreast, 0.8 + 5 * rows), squeeze=False
-    )
+    figure, panels = pyplot.subplots(rows, abreast, figsize=(1 + 4.2 * abreast, 0.8 + 5 * rows), squeeze=False)
     for number, axes in enumerate(panels.flat):
         if number < count:
             draw_fence(axes, fenced, number)
@@ -657,12 +575,9 @@ def draw_fences(fenced: Fenced, out: str, note: str | None) -> None:
             axes.set_axis_off()
     figure.supxlabel("east of the first region's middle, m", fontsize=9, y=0.05)
     figure.supylabel("north, m", fontsize=9)
-    figure.suptitle(
-        f"{len(fenced.answers) + fenced.few} epochs" + (f"; {note}" if note else ""), fontsize=11
-    )
+    figure.suptitle(f"{len(fenced.answers) + fenced.few} epochs" + (f"; {note}" if note else ""), fontsize=11)
     handles = [
-        patches.Patch(color=colour, alpha=0.6, label=f"region: {answer}")
-        for answer, colour in ANSWER_COLOURS.items()
+        patches.Patch(color=colour, alpha=0.6, label=f"region: {answer}") for answer, colour in ANSWER_COLOURS.items()
     ]
     handles.append(lines.Line2D([], [], color=PLACE_COLOUR, linestyle="--", label="the zone"))
     if fenced.known:
@@ -688,8 +603,7 @@ def fences_of(paths: Sequence[PathLike], names: Sequence[str]) -> list[Zone]:
 def run_zones(args: argparse.Namespace) -> None:
     """Draws zones."""
     fenced = Fenced(
-        fences_of(args.zones, args.zone),
-        Meetings(args.places, read_places(args.places) if args.places else []),
+        fences_of(args.zones, args.zone), Meetings(args.places, read_places(args.places) if args.places else [])
     )
     for epoch in epochs(args.log):
         fenced.add(epoch)
@@ -740,13 +654,7 @@ def draw_diagram(axes: Any, points: list[Judged], k: int, limit: float | None) -
         axes.axvline(limit, color=LIMIT_COLOUR, linewidth=1, linestyle="--")
         axes.fill_between([limit, end], [limit, limit], color=PLACE_COLOUR, alpha=0.25, linewidth=0)
         axes.text(
-            0.97 * end,
-            limit,
-            f"unavailable above {limit:g} m",
-            ha="right",
-            va="bottom",
-            color=LIMIT_COLOUR,
-            fontsize=9,
+            0.97 * end, limit, f"unavailable above {limit:g} m", ha="right", va="bottom", color=LIMIT_COLOUR, fontsize=9
         )
     axes.set_xlim(0, end)
     axes.set_ylim(0, end)
@@ -758,18 +666,14 @@ def draw_integrity(judge: Judge, points: list[Judged], out: str, note: str | Non
     """Draws the errors and the protections along the ground and up."""
     pyplot, _ = tools()
     figure, panels = pyplot.subplots(1, 2, figsize=(10, 6))
-    limits = (
-        (None, None) if judge.limits is None else (judge.limits.horizontal, judge.limits.vertical)
-    )
+    limits = (None, None) if judge.limits is None else (judge.limits.horizontal, judge.limits.vertical)
     for k, (axes, name) in enumerate(zip(panels, ("along the ground", "up or down"))):
         draw_diagram(axes, points, k, limits[k])
         axes.set_xlabel(f"error of the region's middle {name}, m")
         axes.set_ylabel(f"protection {name}, m")
-    title = [
-        judge.held_line(),
-        *judge.limit_lines(),
-        "of declared bounds, not of a probability",
-    ] + ([note] if note else [])
+    title = [judge.held_line(), *judge.limit_lines(), "of declared bounds, not of a probability"] + (
+        [note] if note else []
+    )
     figure.suptitle("\n".join(title), fontsize=10)
     handles, labels = panels[0].get_legend_handles_labels()
     figure.legend(handles, labels, loc="lower center", ncol=len(handles), fontsize=9, frameon=False)
@@ -807,9 +711,7 @@ def arguments(parser: argparse.ArgumentParser) -> None:
     time = ways.add_parser("time", help="the extents over time")
     track = ways.add_parser("track", help="the regions of a log of track along the way")
     fenced = ways.add_parser("zones", help="the regions beside zones")
-    integrity = ways.add_parser(
-        "integrity", help="the error against the protection at known places"
-    )
+    integrity = ways.add_parser("integrity", help="the error against the protection at known places")
     works = (
         (region, run_region),
         (time, run_time),
@@ -820,31 +722,17 @@ def arguments(parser: argparse.ArgumentParser) -> None:
     for way, work in works:
         way.add_argument("log", metavar="LOG")
         way.add_argument("out", metavar="OUT", type=ends_well)
-        way.add_argument(
-            "--places", metavar="FILE", required=way is integrity, help="a list of known places"
-        )
+        way.add_argument("--places", metavar="FILE", required=way is integrity, help="a list of known places")
         way.add_argument("--note", metavar="TEXT", help="a further line of the title")
         way.set_defaults(work=work)
-    region.add_argument(
-        "--epoch", type=int, default=1, metavar="N", help="the epoch's number in the log (1)"
-    )
-    region.add_argument(
-        "--place", type=measure, nargs=3, metavar=("X", "Y", "Z"), help="a known place, m"
-    )
+    region.add_argument("--epoch", type=int, default=1, metavar="N", help="the epoch's number in the log (1)")
+    region.add_argument("--place", type=measure, nargs=3, metavar=("X", "Y", "Z"), help="a known place, m")
     time.add_argument("--moving", action="store_true", help="round the place of each epoch")
-    track.add_argument(
-        "--beside", metavar="LOG", help="another log, whose regions' lengths are drawn too"
-    )
+    track.add_argument("--beside", metavar="LOG", help="another log, whose regions' lengths are drawn too")
     fenced.add_argument("--zones", metavar="ZONES", nargs="+", required=True, help="files of zones")
-    fenced.add_argument(
-        "--zone", metavar="NAME", action="append", default=[], help="a zone that is drawn (all)"
-    )
+    fenced.add_argument("--zone", metavar="NAME", action="append", default=[], help="a zone that is drawn (all)")
     integrity.add_argument(
-        "--limit",
-        type=alert_limit,
-        nargs=2,
-        metavar=("H", "V"),
-        help="alert limits along the ground and up, m",
+        "--limit", type=alert_limit, nargs=2, metavar=("H", "V"), help="alert limits along the ground and up, m"
     )
 
 

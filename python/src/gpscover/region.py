@@ -43,17 +43,13 @@ class Region:
 
     def point(self, offset: Sequence[float]) -> Vector:
         """The point x, y, z at an offset along east, north and up from the origin."""
-        x, y, z = (
-            self.origin[k] + sum(offset[j] * self.axes[j][k] for j in range(3)) for k in range(3)
-        )
+        x, y, z = (self.origin[k] + sum(offset[j] * self.axes[j][k] for j in range(3)) for k in range(3))
         return x, y, z
 
     def contains(self, point: Sequence[float]) -> bool:
         """Whether a point is within the extents along each of the three axes."""
         offset = [p - o for p, o in zip(point, self.origin)]
-        return all(
-            low <= dot(axis, offset) <= high for axis, (low, high) in zip(self.axes, self.extents)
-        )
+        return all(low <= dot(axis, offset) <= high for axis, (low, high) in zip(self.axes, self.extents))
 
 
 def upward(value: float) -> float:
@@ -74,16 +70,10 @@ def offset_of(box: Box, origin: Sequence[int]) -> Vector:
     """
     a, b, c, d, e, f = box
     x, y, z = origin
-    return (
-        (a + d - 2 * x) / TWICE_UM,
-        (b + e - 2 * y) / TWICE_UM,
-        (c + f - 2 * z) / TWICE_UM,
-    )
+    return ((a + d - 2 * x) / TWICE_UM, (b + e - 2 * y) / TWICE_UM, (c + f - 2 * z) / TWICE_UM)
 
 
-def extent_along(
-    axis: Sequence[float], centres: Sequence[Vector], halves: Sequence[Vector]
-) -> Extent:
+def extent_along(axis: Sequence[float], centres: Sequence[Vector], halves: Sequence[Vector]) -> Extent:
     """The least and the greatest of the boxes' corners along an axis, from the middles of boxes and
     half sides.
     """
