@@ -21,7 +21,7 @@ import tempfile
 import time
 from pathlib import Path
 
-from second import recheck
+from tools.compare.second import recheck
 from tools.compare.cases import named_cases
 from tools.compare.cuts import log_with_cuts, with_cuts
 from tools.compare.renewals import with_renewals
