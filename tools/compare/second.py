@@ -1,6 +1,5 @@
-"""The second checker for what compares with it. Its file is loaded by its path: nothing imports it by its name, since it has
-to stand alone, and its command line tells the verdict only, where rows and spans are compared.
-"""
+"""The second checker for what compares with it. Its file is loaded by its path: nothing imports it by its name, since
+it has to stand alone, and its command line tells the verdict only, where rows and spans are compared."""
 import importlib.util
 import sys
 from pathlib import Path

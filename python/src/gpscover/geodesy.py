@@ -67,9 +67,7 @@ def elevation(place: Sequence[float], target: Sequence[float]) -> float:
 
 
 def azimuth(place: Sequence[float], target: Sequence[float]) -> float:
-    """The direction along the horizon of `place` in which `target` is seen: from north over east, 0
-    to 2 pi.
-    """
+    """The direction along the horizon of `place` in which `target` is seen: from north over east, 0 to 2 pi."""
     latitude, longitude, _ = geodetic(place)
     toward = [t - p for t, p in zip(target, place)]
     east, north, _ = local_axes(latitude, longitude)

@@ -1,10 +1,8 @@
-"""What a region says of a known place: whether it is in a kept box, and how far the boxes reach
-from it.
+"""What a region says of a known place: whether it is in a kept box, and how far the boxes reach from it.
 
-All lengths are of the declared bounds and hold while these do; none of them is of a probability. A
-receiver doesn't know its place. So what a user of the region can do is judged by its middle: the
-middle is the position that is reported, the farthest corner from it the protection, and how far it
-is from the known place the error.
+All lengths are of the declared bounds and hold while these do; none of them is of a probability. A receiver doesn't
+know its place. So what a user of the region can do is judged by its middle: the middle is the position that is
+reported, the farthest corner from it the protection, and how far it is from the known place the error.
 """
 
 from __future__ import annotations
@@ -55,9 +53,7 @@ class Numbers:
         return not cut and limits.hold(self.reach)
 
     def is_hazardous(self, limits: Limits, cut: bool) -> bool:
-        """Whether the middle is farther from the place than a limit, and the region says that it
-        isn't.
-        """
+        """Whether the middle is farther from the place than a limit, and the region says that it isn't."""
         return self.is_available(limits, cut) and not limits.hold(self.error)
 
 
@@ -87,9 +83,8 @@ def in_search_box(epoch: Epoch, point: Vector) -> bool:
 def farthest_along_ground(centres: list[Vector], halves: list[Vector], east: Vector, north: Vector) -> float:
     """How far the farthest of the boxes' corners is from the origin along the ground.
 
-    A box is seen from above as its middle c and the half sides v of three directions; its corners
-    are c + w and c - w for the four w = v0 +- v1 +- v2, and the farther of these two is at
-    sqrt(|c|^2 + |w|^2 + 2 |c w|).
+    A box is seen from above as its middle c and the half sides v of three directions; its corners are c + w and c - w
+    for the four w = v0 +- v1 +- v2, and the farther of these two is at sqrt(|c|^2 + |w|^2 + 2 |c w|).
     """
     most = 0.0
     for centre, half in zip(centres, halves):

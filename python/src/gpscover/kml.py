@@ -1,9 +1,8 @@
-"""Regions for a map, in KML 2.2: a placemark for each epoch, with its time, its heights and a style
-by its mark.
+"""Regions for a map, in KML 2.2: a placemark for each epoch, with its time, its heights and a style by its mark.
 
-An epoch with a region is its outline as seen from above, twice, at its least and its greatest
-height. Times are UTC, as KML wants them. Heights are those above the ellipsoid of WGS 84; a map
-takes them for heights above the sea, which differ from them by up to 107 m.
+An epoch with a region is its outline as seen from above, twice, at its least and its greatest height. Times are UTC, as
+KML wants them. Heights are those above the ellipsoid of WGS 84; a map takes them for heights above the sea, which
+differ from them by up to 107 m.
 """
 
 from __future__ import annotations
@@ -61,9 +60,7 @@ def utc(ps: int) -> str:
 
 
 def ground_ring(region: Region, corners: list[Flat]) -> list[tuple[float, float]]:
-    """An outline of corners (east, north) as (latitude, longitude) in degrees, the first one again
-    at the end.
-    """
+    """An outline of corners (east, north) as (latitude, longitude) in degrees, the first one again at the end."""
     points = (geodetic(region.point((east, north, 0.0))) for east, north in corners + corners[:1])
     return [(math.degrees(latitude), math.degrees(longitude)) for latitude, longitude, _ in points]
 
@@ -78,9 +75,7 @@ def polygon(ring: list[tuple[float, float]], height: float) -> str:
 
 
 def heights(region: Region) -> tuple[float, float]:
-    """The least and the greatest height above the ellipsoid in m, along the up direction of the
-    region's origin.
-    """
+    """The least and the greatest height above the ellipsoid in m, along the up direction of the region's origin."""
     height = geodetic(region.origin)[2]
     low, high = region.extents[2]
     return height + low, height + high

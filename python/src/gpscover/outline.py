@@ -1,6 +1,4 @@
-"""The outline of boxes as seen along an axis: the convex hull of their corners in a plane of two
-local axes.
-"""
+"""The outline of boxes as seen along an axis: the convex hull of their corners in a plane of two local axes."""
 
 from __future__ import annotations
 
@@ -46,9 +44,8 @@ def ends_along(points: Iterable[Corner], axis: int) -> set[Corner]:
 
 
 def outer_corners(boxes: Iterable[Box]) -> set[Corner]:
-    """Corners of the boxes, among which are those of their convex hull: of those on a line along an
-    axis only two are.
-    """
+    """Corners of the boxes, among which are those of their convex hull: of those on a line along an axis only two
+    are."""
     lines: dict[tuple[int, int], tuple[int, int]] = {}
     for a, b, c, d, e, f in boxes:
         for line in ((b, c), (b, f), (e, c), (e, f)):

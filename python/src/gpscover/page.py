@@ -107,8 +107,7 @@ class Thinned:
 
 
 def to_json(value: object) -> str:
-    """A value as JSON without blanks, which has no `<`, by which a script of the page could end or
-    go on as another."""
+    """A value as JSON without blanks, which has no `<`, by which a script of the page could end or go on as another."""
     return json.dumps(value, ensure_ascii=True, separators=(",", ":")).replace("<", "\\u003c")
 
 
@@ -139,8 +138,7 @@ def drawn_boxes(epoch: Epoch) -> tuple[list[Box], list[Box], list[Box]]:
 
 
 def packed_boxes(epoch: Epoch, region: Region) -> str:
-    """The drawn boxes for the page: their ends in steps from the hull's low corner, two bytes each,
-    as base64."""
+    """The drawn boxes for the page: their ends in steps from the hull's low corner, two bytes each, as base64."""
     kinds = drawn_boxes(epoch)
     hull = hull_of(epoch.boxes)
     steps = [max(1, -((hull[k] - hull[k + 3]) // STEPS)) for k in range(3)]
@@ -238,8 +236,7 @@ class Collected:
         self.thin()
 
     def thin(self) -> None:
-        """Thins out what is larger, until all fits; no boxes are kept of an epoch whose detail
-        isn't."""
+        """Thins out what is larger, until all fits; no boxes are kept of an epoch whose detail isn't."""
         while self.size + self.details.size + self.boxes.size > self.room and max(
             self.details.every, self.boxes.every
         ) <= len(self.rows):

@@ -136,8 +136,7 @@ def flat_figure(go: Any, title: str, across: str, upward: str) -> Figure:
 
 
 def sky_figure(go: Any) -> Figure:
-    """The sky: the zenith in the middle, the horizon at the rim, north above and east to the
-    right."""
+    """The sky: the zenith in the middle, the horizon at the rim, north above and east to the right."""
     layout = go.Layout(title=left("sky"), margin={"l": 40, "r": 40, "t": 46, "b": 30}, font=SMALL, showlegend=False)
     layout.polar.angularaxis = {
         "direction": "clockwise",

@@ -92,11 +92,10 @@ def tools() -> tuple[Any, Any]:
 
 
 def box_polygons(boxes: list[Box], origin: Vector, first: Vector, second: Vector) -> Any:
-    """Each box seen along the axis that is across two local axes: a hexagon, as (number of boxes,
-    6, 2) metres.
+    """Each box seen along the axis that is across two local axes: a hexagon, as (number of boxes, 6, 2) metres.
 
-    The hexagon's sides are the box's three, in the order of their direction, and then these turned
-    round. That order is the same for all boxes.
+    The hexagon's sides are the box's three, in the order of their direction, and then these turned round. That order is
+    the same for all boxes.
     """
     import numpy
 
@@ -114,8 +113,7 @@ def box_polygons(boxes: list[Box], origin: Vector, first: Vector, second: Vector
 
 
 def box_kinds(epoch: Epoch) -> tuple[tuple[list[Box], str, str], ...]:
-    """The kept boxes by their colours: those on a face of the search box, the others at the edge,
-    and inner ones."""
+    """The kept boxes by their colours: those on a face of the search box, the others at the edge, and inner ones."""
     search = epoch.search
     cut = {box for box in epoch.boxes if search is not None and touched_faces(box, search)}
     edge, inner = (
@@ -172,8 +170,7 @@ def region_title(epoch: Epoch, region: Region) -> str:
 
 
 def panels_at_one_scale(pyplot: Any, shown: dict[str, Extent]) -> tuple[Any, list[Any]]:
-    """A figure with two panels, east-north and east-up, in which a metre is as long along all four
-    axes."""
+    """A figure with two panels, east-north and east-up, in which a metre is as long along all four axes."""
     spans = {name: high - low for name, (low, high) in shown.items()}
     scale = LONGEST_IN / max(2 * spans["east"], spans["north"], spans["up"])  # inches a metre
     wide, heights = spans["east"] * scale, [spans[pair[1]] * scale for pair in DIRECTIONS]
@@ -291,8 +288,7 @@ class Course:
         return self.origin
 
     def add(self, epoch: Epoch) -> None:
-        """Adds an epoch: a gap where it has no region, or where it moves and its place isn't
-        known."""
+        """Adds an epoch: a gap where it has no region, or where it moves and its place isn't known."""
         place = self.meetings.at(epoch.ps)
         origin = self.origin_for(epoch, place) if epoch.kept else None
         region = region_of(epoch, origin) if origin is not None else None
@@ -320,8 +316,7 @@ def edges_of(times: list[float]) -> list[Extent]:
 
 
 def bands(edges: list[Extent], spans: list[Extent], wanted: Iterable[bool]) -> list[tuple[float, ...]]:
-    """The corners of the wanted epochs' bands, with gaps between them where one isn't wanted: x,
-    low, high."""
+    """The corners of the wanted epochs' bands, with gaps between them where one isn't wanted: x, low, high."""
     points: list[tuple[float, float, float]] = []
     for (start, end), (low, high), is_wanted in zip(edges, spans, wanted):
         points += [(start, low, high), (end, low, high)] if is_wanted else [(start, math.nan, math.nan)]

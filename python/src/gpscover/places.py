@@ -1,9 +1,8 @@
 """Lists of known places, and the direction of a track.
 
-A file has a place on a line: GPS seconds, or date and time of day as 2008/05/26 05:59:30.000, and
-x, y, z in metres, as the solutions of RTKLIB in the earth-fixed frame have them; what follows isn't
-read, nor are lines that begin with % or #. A place belongs to the epoch within 0.1 s of it. Times
-are in ps since 1980-01-06 00:00:00 GPS time.
+A file has a place on a line: GPS seconds, or date and time of day as 2008/05/26 05:59:30.000, and x, y, z in metres, as
+the solutions of RTKLIB in the earth-fixed frame have them; what follows isn't read, nor are lines that begin with % or
+#. A place belongs to the epoch within 0.1 s of it. Times are in ps since 1980-01-06 00:00:00 GPS time.
 """
 
 from __future__ import annotations
@@ -102,11 +101,10 @@ class Meetings:
 
 
 def direction(places: list[Place], ps: int) -> float | None:
-    """The azimuth in radians, clockwise from north, of a track at a time in ps; None where it gives
-    none.
+    """The azimuth in radians, clockwise from north, of a track at a time in ps; None where it gives none.
 
-    It is that of the way from the last place before the time to the first one behind it, where a
-    place within 0.1 s counts as neither, unless the track begins or ends there.
+    It is that of the way from the last place before the time to the first one behind it, where a place within 0.1 s
+    counts as neither, unless the track begins or ends there.
     """
     before = bisect.bisect_left(places, (ps - NEAR_PS,)) - 1
     behind = bisect.bisect_right(places, (ps + NEAR_PS, (math.inf,) * 3))

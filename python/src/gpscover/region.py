@@ -1,6 +1,4 @@
-"""The region of an epoch: its extents along local east, north and up, in metres, from the kept
-boxes' corners.
-"""
+"""The region of an epoch: its extents along local east, north and up, in metres, from the kept boxes' corners."""
 
 from __future__ import annotations
 
@@ -74,9 +72,7 @@ def offset_of(box: Box, origin: Sequence[int]) -> Vector:
 
 
 def extent_along(axis: Sequence[float], centres: Sequence[Vector], halves: Sequence[Vector]) -> Extent:
-    """The least and the greatest of the boxes' corners along an axis, from the middles of boxes and
-    half sides.
-    """
+    """The least and the greatest of the boxes' corners along an axis, from the middles of boxes and half sides."""
     a, b, c = axis
     d, e, f = abs(a), abs(b), abs(c)
     lows, highs = [], []
@@ -99,9 +95,7 @@ def hull_of(boxes: Iterable[Box]) -> Box:
 
 
 def region_of(epoch: Epoch, origin: Sequence[float] | None = None) -> Region:
-    """The region of an epoch that has kept boxes, with the axes at `origin` in m, or at the middle
-    of their hull.
-    """
+    """The region of an epoch that has kept boxes, with the axes at `origin` in m, or at the middle of their hull."""
     boxes = epoch.boxes
     if not boxes or epoch.search is None:
         raise Error(f"epoch {epoch.index} has no region")

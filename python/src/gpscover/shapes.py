@@ -109,8 +109,7 @@ def grown(faces: list[Face], points: list[Vector]) -> list[Side]:
 
 
 def limits(faces: list[Face]) -> list[tuple[Vector, Fraction]]:
-    """The half-spaces (out, most) of a shape: each ends at the innermost of its face's points, in
-    um."""
+    """The half-spaces (out, most) of a shape: each ends at the innermost of its face's points, in um."""
     return [(face.out, min(product(face.out, in_um(point)) for point in face.points)) for face in faces]
 
 
@@ -180,8 +179,7 @@ def prism(name: str, faces: list[Face], points: list[Vector], purpose: str) -> l
 
 
 class Ground:
-    """The plane that touches the ellipsoid below a place: east, north and up in metres, from that
-    place."""
+    """The plane that touches the ellipsoid below a place: east, north and up in metres, from that place."""
 
     def __init__(self, latitude: float, longitude: float) -> None:
         self.place = (latitude, longitude)
@@ -291,8 +289,7 @@ def is_convex(flat: list[Flat]) -> bool:
 
 
 def triangles(flat: list[Flat]) -> list[tuple[int, ...]]:
-    """A counterclockwise polygon cut into triangles, as the places of their corners: one ear after
-    another."""
+    """A counterclockwise polygon cut into triangles, as the places of their corners: one ear after another."""
     left = list(range(len(flat)))
     found: list[tuple[int, ...]] = []
     while len(left) > 3:
@@ -305,8 +302,7 @@ def triangles(flat: list[Flat]) -> list[tuple[int, ...]]:
 
 
 def is_ear(flat: list[Flat], left: list[int], k: int) -> bool:
-    """Whether the corner turns left, and no other corner lies in the triangle with its
-    neighbours."""
+    """Whether the corner turns left, and no other corner lies in the triangle with its neighbours."""
     a, b, c = (flat[left[i % len(left)]] for i in (k - 1, k, k + 1))
     if turns_left(a, b, c) <= 0:
         return False

@@ -111,9 +111,7 @@ def mark_of(epoch: Epoch, region: Region | None) -> str:
 
 
 def text_cells(epoch: Epoch, region: Region | None) -> list[str]:
-    """The values of an epoch as its line shows them, up to the mark; without a region the first
-    three.
-    """
+    """The values of an epoch as its line shows them, up to the mark; without a region the first three."""
     cells = [str(epoch.index), calendar(epoch.ps), str(epoch.satellites)]
     if region is None:
         return cells
@@ -274,9 +272,7 @@ class Totals:
             yield f"no Galileo satellite is used; {self.why_no_galileo()}"
 
     def box(self) -> tuple[list[int], list[int]]:
-        """The least search box that holds all kept boxes: its centre and its half sides in whole
-        mm.
-        """
+        """The least search box that holds all kept boxes: its centre and its half sides in whole mm."""
         if self.hull is None:
             raise Error("no epoch has a region")
         low = [end // UM_PER_MM for end in self.hull[:3]]
