@@ -19,7 +19,7 @@ if TYPE_CHECKING:
 
 EPOCH_COLUMNS = "epoch time ps mark satellites outliers inner edge out splits".split()
 REGION_COLUMNS = (
-    "east_m north_m up_m clock_low_m clock_high_m volume_m3 latitude_rad longitude_rad height_m" " x_m y_m z_m faces"
+    "east_m north_m up_m clock_low_m clock_high_m volume_m3 latitude_rad longitude_rad height_m x_m y_m z_m faces"
 ).split()
 ENDS = [f"{axis}_{end}_um" for end in ("low", "high") for axis in "xyz"]
 BOX_COLUMNS = ["epoch", "time", "inner", *ENDS, "clock_low_um", "clock_high_um"]
@@ -33,7 +33,7 @@ def library() -> Any:
         import pandas
     except ImportError:
         raise Error(
-            f"{sys.executable} has no pandas; Debian: apt-get install python3-pandas," " then /usr/bin/python3 .."
+            f"{sys.executable} has no pandas; Debian: apt-get install python3-pandas, then /usr/bin/python3 .."
         ) from None
     return pandas
 

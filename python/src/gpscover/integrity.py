@@ -195,8 +195,7 @@ class Judge:
         """How many regions hold the known place."""
         known = self.epochs - self.placeless
         return (
-            f"known places: {known} epochs have one and {self.regions} of these a region, which"
-            f" holds it in {self.held}"
+            f"known places: {known} epochs have one and {self.regions} of these a region, which holds it in {self.held}"
         )
 
     def limit_lines(self) -> Iterator[str]:

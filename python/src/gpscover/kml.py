@@ -38,9 +38,7 @@ def head() -> str:
         f"<PolyStyle><color>{area}</color></PolyStyle></Style>\n"
         for name, line, area in dict.fromkeys(STYLES.values())
     )
-    return (
-        '<?xml version="1.0" encoding="UTF-8"?>\n<kml' f' xmlns="http://www.opengis.net/kml/2.2"><Document>\n{styles}'
-    )
+    return f'<?xml version="1.0" encoding="UTF-8"?>\n<kml xmlns="http://www.opengis.net/kml/2.2"><Document>\n{styles}'
 
 
 def leap_seconds(when: datetime.datetime) -> int:
@@ -96,7 +94,7 @@ def words(epoch: Epoch, region: Region | None, mark: str) -> str:
     east, north, up = (upward(width) for width in region.widths())
     low, high = heights(region)
     cut = f", reaches the search box at {' '.join(region.faces)}" if region.faces else ""
-    return f"{said}, east {east:.1f} m, north {north:.1f} m, up {up:.1f} m, height {low:.1f} to" f" {high:.1f} m{cut}"
+    return f"{said}, east {east:.1f} m, north {north:.1f} m, up {up:.1f} m, height {low:.1f} to {high:.1f} m{cut}"
 
 
 def placemark(epoch: Epoch, region: Region | None, mark: str) -> str:

@@ -73,11 +73,10 @@ MARK_WORDS = {
     "": "",
     "few": "Too few usable satellites, so the epoch isn't paved.",
     "empty": (
-        "No position fits: more satellites than allowed broke their bounds, or the receiver was"
-        " outside the search box."
+        "No position fits: more satellites than allowed broke their bounds, or the receiver was outside the search box."
     ),
     "lost": "The track ends here: no position fits.",
-    "reaches": ("A kept box lies on the named faces of the search box, so the region may go on outside."),
+    "reaches": "A kept box lies on the named faces of the search box, so the region may go on outside.",
 }
 
 
@@ -253,7 +252,7 @@ class Collected:
                 " MB: --from and --to make a page of some epochs"
             )
         if self.details.every > 1:
-            yield ("sky, outlines, errors and skipped satellites are those of one epoch in" f" {self.details.every}")
+            yield f"sky, outlines, errors and skipped satellites are those of one epoch in {self.details.every}"
         numbers = [int(row[0]) for row in self.rows]
         gaps = [(a, b) for a, b in zip(numbers, numbers[1:]) if b != a + 1]
         if gaps:
@@ -285,7 +284,7 @@ def settings_differ(text: str, rules: Rules) -> Iterator[str]:
     for key, value in wanted:
         found = re.search(rf"(?m)^\s*{key}\s*=\s*([0-9](?:_?[0-9]){{0,18}})\b", text)
         if found and int(found[1]) != value:
-            yield (f"these settings have {key} = {found[1]}, and the log has {value}: they aren't" " those of the log")
+            yield f"these settings have {key} = {found[1]}, and the log has {value}: they aren't those of the log"
 
 
 def page_data(

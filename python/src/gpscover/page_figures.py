@@ -155,7 +155,7 @@ def sky_figure(go: Any) -> Figure:
         marker={"size": 9, "color": LINE_COLOUR},
         textposition="top center",
         cliponaxis=False,
-        hovertemplate=("%{text}<br>%{customdata:.1f}° high<br>azimuth %{theta:.1f}°<extra></extra>"),
+        hovertemplate="%{text}<br>%{customdata:.1f}° high<br>azimuth %{theta:.1f}°<extra></extra>",
     )
     return {"layout": plain(layout), "satellites": plain(trace)}
 

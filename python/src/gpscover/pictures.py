@@ -215,7 +215,7 @@ def chosen_epoch(path: PathLike, index: int) -> Epoch:
     for epoch in epochs(path):
         if epoch.index == index:
             if epoch.few or not epoch.kept:
-                raise Error(f"epoch {index} of {path} has no region: it is" f" {'few' if epoch.few else 'empty'}")
+                raise Error(f"epoch {index} of {path} has no region: it is {'few' if epoch.few else 'empty'}")
             return epoch
     raise Error(f"{path} has no epoch {index}")
 
@@ -303,7 +303,7 @@ class Course:
 
     def title(self) -> str:
         """How many epochs there are, and how many have a colour of their own."""
-        return f"{len(self.times)} epochs; {sum(self.cut)} reach the search box, {sum(self.empty)} are" " empty"
+        return f"{len(self.times)} epochs; {sum(self.cut)} reach the search box, {sum(self.empty)} are empty"
 
 
 def edges_of(times: list[float]) -> list[Extent]:

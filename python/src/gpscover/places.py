@@ -93,7 +93,7 @@ class Meetings:
         if self.met or self.apart is None:
             return
         first, last = (calendar(self.places[k][0]) for k in (0, -1))
-        words = f"{self.path} has no place within 0.1 s of {whom}: its places are of {first} to" f" {last} GPS time"
+        words = f"{self.path} has no place within 0.1 s of {whom}: its places are of {first} to {last} GPS time"
         away = -self.apart // PS_PER_MS
         if LEAP_MS[0] < away <= LEAP_MS[1]:
             words += f", and the nearest is {away / 1000:g} s before it: are they in UTC?"

@@ -54,8 +54,8 @@ SHOWN_OUTLIERS = range(5)
 DIGITS = 3
 LONG_EXPONENT = re.compile(r"[eE][+-]?[\d_]{4}")  # of a fraction that no memory holds
 ASSUMED = (
-    ("assumed: each satellite's error breaks its bounds with probability at most p, and they do" " so independently;"),
-    ("where one cause breaks many at once (a wall, a fault of the constellation) these numbers" " mean nothing"),
+    "assumed: each satellite's error breaks its bounds with probability at most p, and they do so independently;",
+    "where one cause breaks many at once (a wall, a fault of the constellation) these numbers mean nothing",
 )
 
 

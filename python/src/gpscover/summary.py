@@ -258,8 +258,7 @@ class Totals:
             yield f"every paved epoch is empty; {self.why_empty()}"
         elif empty:
             yield (
-                f"{empty} of {paved} paved epochs are empty: more satellites than allowed broke"
-                f" their bounds, {LEFT}"
+                f"{empty} of {paved} paved epochs are empty: more satellites than allowed broke their bounds, {LEFT}"
             )
         if reaches and reaches == self.regions:
             yield f"every region reaches the search box; {self.why_reaches()}"
