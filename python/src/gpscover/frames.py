@@ -3,11 +3,10 @@
 from __future__ import annotations
 
 import argparse
-import sys
 from collections.abc import Callable, Iterable
 from typing import TYPE_CHECKING, Any
 
-from gpscover.command import Command
+from gpscover.command import Command, absent, name_ending
 from gpscover.errors import Error
 from gpscover.log import Epoch, Log, open_log
 from gpscover.region import region_or_none
@@ -32,9 +31,7 @@ def library() -> Any:
     try:
         import pandas
     except ImportError:
-        raise Error(
-            f"{sys.executable} has no pandas; Debian: apt-get install python3-pandas, then /usr/bin/python3 .."
-        ) from None
+        raise absent("pandas") from None
     return pandas
 
 
@@ -99,17 +96,10 @@ def write_frame(frame: Any, path: str) -> None:
         raise Error("Parquet needs pyarrow or fastparquet") from None
 
 
-def frame_name(name: str) -> str:
-    """A file's name that ends with .csv or .parquet."""
-    if not name.endswith((".csv", ".parquet")):
-        raise argparse.ArgumentTypeError("OUT ends with .csv or .parquet")
-    return name
-
-
 def arguments(parser: argparse.ArgumentParser) -> None:
     """The words of the command line."""
     parser.add_argument("log", metavar="LOG")
-    parser.add_argument("out", metavar="OUT", type=frame_name)
+    parser.add_argument("out", metavar="OUT", type=name_ending(".csv", ".parquet", told=".csv or .parquet"))
     parser.add_argument("--of", choices=KINDS, default="epochs", help="what a row is of (epochs)")
 
 

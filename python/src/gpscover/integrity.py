@@ -7,6 +7,7 @@ reported, the farthest corner from it the protection, and how far it is from the
 
 from __future__ import annotations
 
+import argparse
 import math
 from collections.abc import Iterator, Sequence
 from dataclasses import dataclass
@@ -63,6 +64,12 @@ def alert_limit(text: str) -> float:
     if length <= 0:
         raise ValueError
     return length
+
+
+def limit_argument(parser: argparse.ArgumentParser) -> None:
+    """The word of the two alert limits."""
+    told = "alert limits along the ground and up, m"
+    parser.add_argument("--limit", type=alert_limit, nargs=2, metavar=("H", "V"), help=told)
 
 
 def in_um(point: Sequence[float]) -> list[int]:

@@ -37,13 +37,12 @@ from collections.abc import Iterable, Iterator, Sequence
 from pathlib import Path
 from typing import Any
 
-from gpscover.command import Command, whole_file
+from gpscover.command import Command, absent, name_ending, whole_file
 from gpscover.errors import Error, LogError
 from gpscover.geodesy import Vector, azimuth, elevation
 from gpscover.kml import ground_ring
 from gpscover.log import UM_PER_M, Box, Epoch, PathLike, Rules, epochs, rules_of
 from gpscover.outline import Flat, outer_corners, outline_of
-from gpscover.page_figures import figures, tools
 from gpscover.region import Region, hull_of, region_or_none
 from gpscover.summary import COLUMNS, Totals, csv_line, mark_of, text_cells
 
@@ -325,17 +324,26 @@ def page_text(title: str, data: dict[str, Any], collected: Collected, parts: dic
     )
 
 
+def plotly_script() -> str:
+    """The script of plotly, or an Error that says how to get it."""
+    try:
+        from plotly.offline import get_plotlyjs
+    except ImportError:
+        raise absent("plotly", "-m gpscover page ") from None
+    script: str = get_plotlyjs()
+    return script
+
+
 def make_page(args: argparse.Namespace) -> str | None:
     """Reads the logs and writes the page. The line for a log that ends too early, or None."""
-    objects, script = tools()
     parts = {name: (PARTS / name).read_text(encoding="utf-8") for name in ("page.html", "page.css", "page.js")}
-    parts["plotly"] = script
+    parts["plotly"] = plotly_script()
     rules = rules_of(args.log[0])
     settings = Path(args.settings).read_text(encoding="utf-8", errors="replace") if args.settings else None
     room = PAGE_LIMIT - sum(len(part.encode()) for part in parts.values())
     collected, broken = collect(args.log, args.first or 0, args.last or math.inf, room)
     data = page_data(args, collected, rules, settings, broken)
-    data["figures"] = figures(objects)
+    data["figures"] = json.loads((PARTS / "figures.json").read_text(encoding="utf-8"))
     title = args.title or f"Regions of {', '.join(Path(name).name for name in args.log)}"
     with whole_file(args.out) as file:
         file.write(page_text(title, data, collected, parts))
@@ -343,13 +351,6 @@ def make_page(args: argparse.Namespace) -> str | None:
     for line in said:
         print(f"{args.parser.prog}: {line}", file=sys.stderr)
     return broken
-
-
-def page_name(name: str) -> str:
-    """A file's name that ends with .html."""
-    if not name.endswith((".html", ".htm")):
-        raise argparse.ArgumentTypeError("OUT ends with .html")
-    return name
 
 
 def number(word: str) -> int:
@@ -362,7 +363,7 @@ def number(word: str) -> int:
 def arguments(parser: argparse.ArgumentParser) -> None:
     """The words of the command line."""
     parser.add_argument("log", metavar="LOG", nargs="+", help="a log, or the logs of a file's parts in their order")
-    parser.add_argument("out", metavar="OUT.html", type=page_name)
+    parser.add_argument("out", metavar="OUT.html", type=name_ending(".html", ".htm", told=".html"))
     parser.add_argument("--settings", metavar="FILE", help="the settings of the run, to be shown")
     parser.add_argument("--from", type=number, dest="first", metavar="N", help="the first epoch that is taken")
     parser.add_argument("--to", type=number, dest="last", metavar="N", help="the last epoch that is taken")

@@ -78,6 +78,11 @@ class Meetings:
         self.met = 0
         self.apart: int | None = None  # of the epoch and the place that are nearest, in ps
 
+    @classmethod
+    def of(cls, path: PathLike | None) -> Meetings:
+        """The places of a file; none of None."""
+        return cls(path, [] if path is None else read_places(path))
+
     def at(self, ps: int) -> Vector | None:
         """The place at a time in ps, or None. It is counted."""
         point = place_at(self.places, ps)

@@ -49,7 +49,7 @@ from gpscover.errors import Error
 from gpscover.geodesy import Vector, dot, earth_fixed, geodetic, local_axes
 from gpscover.log import PathLike, epochs
 from gpscover.outline import Flat
-from gpscover.places import Meetings, read_places
+from gpscover.places import Meetings
 from gpscover.zones import GREATEST, LONGEST, Side, Whole
 
 MOST_SIDES = 16
@@ -236,7 +236,7 @@ def place_lines(name: str, place: Sequence[float], radius: float, up: float, pur
 
 def reported_lines(name: str, path: PathLike, log: PathLike, radius: float, up: float, purpose: str) -> list[str]:
     """A place for each epoch of a log that has one in a list of places, within 0.1 s."""
-    meetings = Meetings(path, read_places(path))
+    meetings = Meetings.of(path)
     written: list[str] = []
     for epoch in epochs(log):
         place = meetings.at(epoch.ps)

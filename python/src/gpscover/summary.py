@@ -54,7 +54,7 @@ from gpscover import kml
 from gpscover.command import Command, measure, whole_file
 from gpscover.errors import Error, UsageError
 from gpscover.geodesy import geodetic
-from gpscover.integrity import Judge, Limits, Numbers, alert_limit
+from gpscover.integrity import Judge, Limits, Numbers, limit_argument
 from gpscover.log import PS_PER_MS, UM_PER_M, Box, Epoch, PathLike, SkipReason, calendar, epochs
 from gpscover.observations import file_epochs
 from gpscover.places import Meetings, read_places
@@ -352,9 +352,7 @@ def place_arguments(parser: argparse.ArgumentParser) -> None:
         "--azimuth", type=measure, metavar="A", help="look along and across A degrees from north, clockwise"
     )
     way.add_argument("--along", metavar="FILE", help="look along and across a track, a list of places")
-    parser.add_argument(
-        "--limit", type=alert_limit, nargs=2, metavar=("H", "V"), help="alert limits along the ground and up, m"
-    )
+    limit_argument(parser)
 
 
 def arguments(parser: argparse.ArgumentParser) -> None:
@@ -379,7 +377,7 @@ def judge_of(args: argparse.Namespace) -> Judge | None:
     azimuth = None if args.azimuth is None else math.radians(args.azimuth)
     track = None if args.along is None else read_places(args.along)
     limits = None if args.limit is None else Limits(*args.limit)
-    return Judge(Meetings(args.places, read_places(args.places)), azimuth, track, limits)
+    return Judge(Meetings.of(args.places), azimuth, track, limits)
 
 
 def print_text(args: argparse.Namespace, outlines: TextIO | None, judge: Judge | None) -> Totals:
