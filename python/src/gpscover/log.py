@@ -27,28 +27,6 @@ from gpscover.errors import LogError
 if TYPE_CHECKING:
     import pandas
 
-__all__ = [
-    "Box",
-    "Epoch",
-    "Interval",
-    "Kept",
-    "Log",
-    "PS_PER_MS",
-    "PathLike",
-    "Point",
-    "Renewal",
-    "Row",
-    "Rules",
-    "Skip",
-    "SkipReason",
-    "UM_PER_M",
-    "calendar",
-    "epochs",
-    "gps_time",
-    "open_log",
-    "rules_of",
-]
-
 PathLike = str | os.PathLike[str]
 Point = tuple[float, float, float]
 
@@ -63,7 +41,7 @@ HEADS = "gpscover 1", "gpscover 2", "gpscover 3"
 LATEST_PS = 4 * 10**21  # times of a log lie before it
 LONGEST = 24  # characters of a number of a log, few enough to be a floating-point number too
 SATELLITE = re.compile("[GE][0-9]{2}")
-CLOSING = {"out": 1, "edge": 3, "in": 4}  # lines that close a box, and how many numbers each has
+CLOSING = {"out": 0, "edge": 2, "in": 3}  # lines that close a box, and how many numbers each has behind the box
 
 
 class SkipReason(str, Enum):
@@ -290,10 +268,9 @@ def wholes(words: list[str], count: int) -> tuple[int, ...]:
 
 def box_of(ends: tuple[int, ...] | list[int]) -> Box:
     """A box of its low and its high corner. None has a low end above the high one."""
-    x_low, y_low, z_low, x_high, y_high, z_high = ends
-    if x_low > x_high or y_low > y_high or z_low > z_high:
+    if ends[0] > ends[3] or ends[1] > ends[4] or ends[2] > ends[5]:
         raise ValueError
-    return Box(x_low, y_low, z_low, x_high, y_high, z_high)
+    return Box._make(ends)
 
 
 def satellite_of(word: str) -> str:
@@ -342,42 +319,43 @@ class Fold:
 
     def close(self, words: list[str]) -> None:
         """Closes a box by an `in`, `edge` or `out` line."""
-        numbers = wholes(words[1:], CLOSING[words[0]])
-        box = self.live.pop(numbers[0])
+        identity, *numbers = map(int, words[1:])
+        if len(numbers) != CLOSING[words[0]]:
+            raise ValueError
+        box = self.live.pop(identity)
         if words[0] == "out":
             self.epoch.outs += 1
         else:
-            clock = Interval(*numbers[-2:])
+            clock = Interval(numbers[-2], numbers[-1])
             self.epoch.kept.append(Kept(box_of(box), words[0] == "in", clock, self.rows))
 
     def halve(self, identity: int, axis: int) -> None:
         """Puts the two halves of a box into the live boxes, under the next two numbers."""
         if not 0 <= axis < 3:
             raise ValueError
-        low = self.live.pop(identity)
-        high = list(low)
+        low, following = self.live.pop(identity), self.following
+        high = low.copy()
         middle = (low[axis] + low[axis + 3]) // 2
         low[axis + 3], high[axis] = middle, middle + 1
-        self.live[self.following], self.live[self.following + 1] = low, high
-        self.following += 2
+        self.live[following], self.live[following + 1] = low, high
+        self.following = following + 2
 
     def cut(self, identity: int, face: int, bound: int) -> None:
         """Gives a box a new end at one of its faces."""
         if not 0 <= face < 6:
             raise ValueError
-        axis, is_high = divmod(face, 2)
-        self.live[identity][axis + 3 * is_high] = bound
+        self.live[identity][face // 2 + 3 * (face % 2)] = bound
 
     def step(self, words: list[str]) -> None:
-        """Takes a step."""
-        if words[0] == "split":
-            identity, axis = wholes(words[1:], 2)
-            self.halve(identity, axis)
-        elif words[0] in CLOSING:
+        """Takes a step, no word of which is too long."""
+        if words[0] in CLOSING:
             self.close(words)
+        elif words[0] == "split":
+            _, identity, axis = words
+            self.halve(int(identity), int(axis))
         elif words[0] == "cut":
-            identity, face, bound = wholes(words[1:], 3)
-            self.cut(identity, face, bound)
+            _, identity, face, bound = words
+            self.cut(int(identity), int(face), int(bound))
         else:
             raise ValueError
         self.steps += 1
@@ -394,8 +372,10 @@ def fold_steps(epoch: Epoch, root: Box, lines: Iterator[str], renews: bool) -> N
     fold = Fold(epoch, root)
     for line in lines:
         words = line.split(" ")
+        if len(line) > LONGEST and max(map(len, words)) > LONGEST:
+            raise ValueError
         if words[0] == "done":
-            (epoch.splits,) = wholes(words[1:], 1)
+            (epoch.splits,) = map(int, words[1:])
             return
         if words[0] == "renew" and renews:
             fold.renew(words, lines)
@@ -476,14 +456,10 @@ class Numbered:
         self.file, self.count = file, 0
 
     def __iter__(self) -> Iterator[str]:
-        return self
-
-    def __next__(self) -> str:
-        line = next(self.file)
-        self.count += 1
-        if line[-1] != "\n":
-            raise EOFError
-        return line[:-1]
+        for self.count, line in enumerate(self.file, 1):
+            if line[-1] != "\n":
+                raise EOFError
+            yield line[:-1]
 
 
 def open_text(path: PathLike) -> TextIO:
@@ -499,7 +475,7 @@ def epochs(path: PathLike) -> Iterator[Epoch]:
     with open_text(path) as file:
         lines = Numbered(file)
         try:
-            yield from blocks(lines)
+            yield from blocks(iter(lines))
         except EOFError:
             where = f"{path} ends within an epoch, at line {lines.count}"
             raise LogError(f"{where}: its run was ended early") from None

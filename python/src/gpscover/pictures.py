@@ -67,10 +67,9 @@ Judged = tuple[Numbers, bool]  # of an epoch, and whether the search box cuts it
 
 EDGE_COLOUR, INNER_COLOUR, PLACE_COLOUR, BAND_COLOUR = "#f4b183", "#548235", "#c00000", "#9dc3e6"
 CUT_COLOUR, EMPTY_COLOUR, LIMIT_COLOUR, EDGE_LINE_COLOUR = "#b36bd4", "#d9d9d9", "#404040", "#1f5f99"
-STYLE = {
-    "svg.hashsalt": "gpscover",  # the same picture is the same file
-    **{"axes.grid": True, "grid.alpha": 0.3, "legend.fontsize": 9, "legend.frameon": False},
-}
+# By the salt the same picture is the same file.
+STYLE: dict[str, Any] = {"svg.hashsalt": "gpscover", "axes.grid": True, "grid.alpha": 0.3}
+STYLE |= {"legend.fontsize": 9, "legend.frameon": False}
 NAMES = ("east", "north", "up")
 MANY_BOXES = 500  # in an SVG more than these are drawn as dots, so that the file stays small
 DIRECTIONS = (("east", "north"), ("east", "up"))

@@ -5,6 +5,7 @@ from __future__ import annotations
 import math
 from collections.abc import Iterable, Sequence
 from dataclasses import dataclass
+from operator import add, sub
 
 from gpscover.errors import Error
 from gpscover.geodesy import Axes, Vector, dot, geodetic, local_axes
@@ -75,12 +76,9 @@ def extent_along(axis: Sequence[float], centres: Sequence[Vector], halves: Seque
     """The least and the greatest of the boxes' corners along an axis, from the middles of boxes and half sides."""
     a, b, c = axis
     d, e, f = abs(a), abs(b), abs(c)
-    lows, highs = [], []
-    for (x, y, z), (p, q, r) in zip(centres, halves):
-        middle, reach = a * x + b * y + c * z, d * p + e * q + f * r
-        lows.append(middle - reach)
-        highs.append(middle + reach)
-    return min(lows), max(highs)
+    middles = [a * x + b * y + c * z for x, y, z in centres]
+    reaches = [d * p + e * q + f * r for p, q, r in halves]
+    return min(map(sub, middles, reaches)), max(map(add, middles, reaches))
 
 
 def touched_faces(hull: Box, root: Box) -> list[str]:
