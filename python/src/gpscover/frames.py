@@ -62,14 +62,35 @@ def epochs_frame(log: Log) -> pandas.DataFrame:
     return frame_of(EPOCH_COLUMNS + REGION_COLUMNS, map(epoch_row, log))
 
 
+def numbers(values: list[Any]) -> Any:
+    """Whole numbers as an array, of 64 bits each where all of them fit."""
+    import numpy
+
+    try:
+        return numpy.array(values, dtype=numpy.int64)
+    except OverflowError:
+        return numpy.array(values, dtype=object)
+
+
 def boxes_frame(log: Log) -> pandas.DataFrame:
-    """A row a kept box, in um: its ends, and its span of clock offsets."""
-    rows = (
-        (epoch.index, time, kept.inner, *kept.box, *kept.clock)
-        for epoch, time in ((epoch, epoch.time) for epoch in log)
-        for kept in epoch.kept
-    )
-    return frame_of(BOX_COLUMNS, rows)
+    """A row a kept box, in um: its ends, and its span of clock offsets.
+
+    A day has some hundred thousand boxes: those of an epoch are an array before the next one is read.
+    """
+    pandas = library()
+    import numpy
+
+    heads: list[tuple[Any, ...]] = []
+    spans, inner, positions = [numbers([]).reshape(0, len(BOX_COLUMNS) - 3)], [], []
+    for position, epoch in enumerate(log):
+        heads.append((epoch.index, epoch.time))
+        positions += [position] * len(epoch.kept)
+        inner += [kept.inner for kept in epoch.kept]
+        if epoch.kept:
+            spans.append(numbers([(*kept.box, *kept.clock) for kept in epoch.kept]))
+    head = frame_of(BOX_COLUMNS[:2], heads).iloc[positions].reset_index(drop=True)
+    ends = pandas.DataFrame(numpy.concatenate(spans), columns=BOX_COLUMNS[3:])
+    return pandas.concat([head.assign(inner=numpy.array(inner, dtype=bool)), ends], axis=1)
 
 
 def rows_frame(log: Log) -> pandas.DataFrame:
