@@ -27,8 +27,10 @@ def geodetic(point: Sequence[float]) -> Vector:
     from_axis = math.hypot(x, y)
     latitude = math.atan2(z, from_axis * (1 - ECCENTRICITY_2))
     for _ in range(10):
-        raised = z + ECCENTRICITY_2 * prime_vertical(latitude) * math.sin(latitude)
+        before, raised = latitude, z + ECCENTRICITY_2 * prime_vertical(latitude) * math.sin(latitude)
         latitude = math.atan2(raised, from_axis)
+        if latitude == before:  # so would it be in each further round
+            break
     sine, cosine = math.sin(latitude), math.cos(latitude)
     height = from_axis * cosine + z * sine - SEMI_MAJOR_M**2 / prime_vertical(latitude)
     return latitude, math.atan2(y, x), height

@@ -17,7 +17,7 @@ def half_hull(points: list[Flat]) -> list[Flat]:
     for x, y in points:
         # the last corner goes where the way over it to this point doesn't turn left
         while len(hull) > 1:
-            (a, b), (c, d) = hull[-2:]
+            (a, b), (c, d) = hull[-2], hull[-1]
             if (c - a) * (y - b) > (d - b) * (x - a):
                 break
             hull.pop()

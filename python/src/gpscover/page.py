@@ -140,17 +140,17 @@ def packed_boxes(epoch: Epoch, region: Region) -> str:
     kinds = drawn_boxes(epoch)
     hull = hull_of(epoch.boxes)
     steps = [max(1, -((hull[k] - hull[k + 3]) // STEPS)) for k in range(3)]
-    ends: list[int] = []
-    for box in (box for kind in kinds for box in kind):
-        ends += [(box[k] - hull[k]) // steps[k] for k in range(3)]
-        ends += [-((hull[k] - box[k + 3]) // steps[k]) for k in range(3)]
+    columns = list(zip(*(box for kind in kinds for box in kind)))
+    ends = [[(end - hull[k]) // steps[k] for end in columns[k]] for k in range(3)]
+    ends += [[-((hull[k] - end) // steps[k]) for end in columns[k + 3]] for k in range(3)]
+    numbers = [number for box in zip(*ends) for number in box]
     return to_json(
         {
             "counts": [len(kind) for kind in kinds],
             "low": [hull[k] / UM_PER_M - region.origin[k] for k in range(3)],
             "steps": [step / UM_PER_M for step in steps],
             "axes": region.axes,
-            "ends": base64.b64encode(struct.pack(f"<{len(ends)}H", *ends)).decode("ascii"),
+            "ends": base64.b64encode(struct.pack(f"<{len(numbers)}H", *numbers)).decode("ascii"),
         }
     )
 
