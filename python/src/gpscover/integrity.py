@@ -13,7 +13,7 @@ from collections.abc import Iterator, Sequence
 from dataclasses import dataclass
 
 from gpscover.command import measure
-from gpscover.geodesy import Vector, dot, geodetic, local_axes
+from gpscover.geodesy import Frame, Vector, dot
 from gpscover.log import UM_PER_M, Epoch
 from gpscover.places import Meetings, Place, direction
 from gpscover.region import Region, extent_along, half_sides, offset_of, upward
@@ -107,7 +107,7 @@ class Corners:
 
     def __init__(self, epoch: Epoch, point: Vector) -> None:
         origin = in_um(point)
-        self.east, self.north, self.up = local_axes(*geodetic(point)[:2])
+        self.east, self.north, self.up = Frame.at(point).axes
         self.centres = [offset_of(kept.box, origin) for kept in epoch.kept]
         self.halves = [half_sides(kept.box) for kept in epoch.kept]
 
@@ -130,9 +130,8 @@ class Corners:
 
 def apart(place: Vector, point: Vector) -> Pair:
     """How far a point is from a place along the ground, and up or down, in m."""
-    east, north, up = local_axes(*geodetic(place)[:2])
-    way = [b - a for a, b in zip(place, point)]
-    return math.hypot(dot(east, way), dot(north, way)), abs(dot(up, way))
+    east, north, up = Frame.at(place).offset(point)
+    return math.hypot(east, north), abs(up)
 
 
 def numbers_of(epoch: Epoch, region: Region, place: Vector, azimuth: float | None = None) -> Numbers:

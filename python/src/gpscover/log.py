@@ -41,7 +41,7 @@ HEADS = "gpscover 1", "gpscover 2", "gpscover 3"
 LATEST_PS = 4 * 10**21  # times of a log lie before it
 LONGEST = 24  # characters of a number of a log, few enough to be a floating-point number too
 SATELLITE = re.compile("[GE][0-9]{2}")
-CLOSING = {"out": 0, "edge": 2, "in": 3}  # lines that close a box, and how many numbers each has behind the box
+CLOSING = {"out": 1, "edge": 3, "in": 4}  # lines that close a box, and how many numbers each has
 
 
 class SkipReason(str, Enum):
@@ -319,45 +319,42 @@ class Fold:
 
     def close(self, words: list[str]) -> None:
         """Closes a box by an `in`, `edge` or `out` line."""
-        identity, *numbers = map(int, words[1:])
-        if len(numbers) != CLOSING[words[0]]:
-            raise ValueError
-        box = self.live.pop(identity)
+        numbers = wholes(words[1:], CLOSING[words[0]])
+        box = self.live.pop(numbers[0])
         if words[0] == "out":
             self.epoch.outs += 1
         else:
             clock = Interval(numbers[-2], numbers[-1])
             self.epoch.kept.append(Kept(box_of(box), words[0] == "in", clock, self.rows))
 
-    def halve(self, identity: int, axis: int) -> None:
+    def halve(self, words: list[str]) -> None:
         """Puts the two halves of a box into the live boxes, under the next two numbers."""
+        _, identity, along = words
+        low, axis, following = self.live.pop(int(identity)), int(along), self.following
         if not 0 <= axis < 3:
             raise ValueError
-        low, following = self.live.pop(identity), self.following
         high = low.copy()
         middle = (low[axis] + low[axis + 3]) // 2
         low[axis + 3], high[axis] = middle, middle + 1
         self.live[following], self.live[following + 1] = low, high
         self.following = following + 2
 
-    def cut(self, identity: int, face: int, bound: int) -> None:
+    def cut(self, words: list[str]) -> None:
         """Gives a box a new end at one of its faces."""
+        _, identity, number, bound = words
+        face = int(number)
         if not 0 <= face < 6:
             raise ValueError
-        self.live[identity][face // 2 + 3 * (face % 2)] = bound
+        self.live[int(identity)][face // 2 + 3 * (face % 2)] = whole(bound)
 
     def step(self, words: list[str]) -> None:
-        """Takes a step, no word of which is too long."""
-        if words[0] in CLOSING:
-            self.close(words)
+        """Takes a step."""
+        if words[0] == "cut":
+            self.cut(words)
         elif words[0] == "split":
-            _, identity, axis = words
-            self.halve(int(identity), int(axis))
-        elif words[0] == "cut":
-            _, identity, face, bound = words
-            self.cut(int(identity), int(face), int(bound))
+            self.halve(words)
         else:
-            raise ValueError
+            self.close(words)
         self.steps += 1
 
     def renew(self, words: list[str], lines: Iterator[str]) -> None:
@@ -372,10 +369,8 @@ def fold_steps(epoch: Epoch, root: Box, lines: Iterator[str], renews: bool) -> N
     fold = Fold(epoch, root)
     for line in lines:
         words = line.split(" ")
-        if len(line) > LONGEST and max(map(len, words)) > LONGEST:
-            raise ValueError
         if words[0] == "done":
-            (epoch.splits,) = map(int, words[1:])
+            (epoch.splits,) = wholes(words[1:], 1)
             return
         if words[0] == "renew" and renews:
             fold.renew(words, lines)

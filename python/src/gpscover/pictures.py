@@ -47,12 +47,11 @@ from __future__ import annotations
 import argparse
 import math
 from collections.abc import Iterable, Sequence
-from dataclasses import dataclass
 from typing import Any, TypeVar
 
 from gpscover.command import Command, absent, measure, name_ending, work_of
 from gpscover.errors import Error
-from gpscover.geodesy import Axes, Vector, dot, geodetic, local_axes
+from gpscover.geodesy import Frame, Vector
 from gpscover.integrity import Judge, Limits, Numbers, limit_argument
 from gpscover.log import PS_PER_MS, UM_PER_M, Box, Epoch, PathLike, calendar, epochs
 from gpscover.outline import Flat, convex_hull, outline
@@ -248,31 +247,9 @@ def run_region(args: argparse.Namespace) -> None:
     draw_region(epoch, place, args.out, args.note)
 
 
-@dataclass(frozen=True)
-class Frame:
-    """East, north and up in m from an origin."""
-
-    origin: Vector
-    axes: Axes
-
-    @classmethod
-    def at(cls, origin: Vector) -> Frame:
-        """The frame at a point."""
-        return cls(origin, local_axes(*geodetic(origin)[:2]))
-
-    def offset(self, point: Vector) -> Vector:
-        """A point along the axes."""
-        apart = [p - o for p, o in zip(point, self.origin)]
-        east, north, up = (dot(axis, apart) for axis in self.axes)
-        return east, north, up
-
-    def above(self, point: Vector) -> Flat:
-        """A point as seen from above: east and north."""
-        return self.offset(point)[:2]
-
-    def outline(self, boxes: list[Box]) -> list[Flat]:
-        """The outline of boxes as seen from above."""
-        return outline(boxes, self.origin, self.axes[0], self.axes[1])
+def ring_above(frame: Frame, boxes: list[Box]) -> list[Flat]:
+    """The outline of boxes as seen from above."""
+    return outline(boxes, frame.origin, *frame.axes[:2])
 
 
 NOWHERE = (math.nan, math.nan)
@@ -407,11 +384,11 @@ class Tube:
     def add_shapes(self, frame: Frame, epoch: Epoch, place: Vector | None) -> None:
         """Adds what is seen of an epoch from above."""
         if epoch.kept:
-            self.rings.append(frame.outline(epoch.boxes))
+            self.rings.append(ring_above(frame, epoch.boxes))
         if place is not None:
-            self.known.append(frame.above(place))
+            self.known.append(frame.offset(place)[:2])
         if epoch.moves and epoch.empty and self.lost is None and epoch.root is not None:
-            self.lost = epoch.index, frame.outline([epoch.root])
+            self.lost = epoch.index, ring_above(frame, [epoch.root])
 
     def drawn(self) -> list[list[Flat]]:
         """At most MOST_OUTLINES of the outlines."""
@@ -495,21 +472,21 @@ class Fenced:
         if boxes and self.frame is None:
             self.frame = Frame.at(region_of(epoch).middle())
         self.answers.append([fence.answer(boxes) for fence in self.fences])
-        self.rings.append(self.frame.outline(boxes) if boxes and self.frame else None)
+        self.rings.append(ring_above(self.frame, boxes) if boxes and self.frame else None)
         if place is not None and self.frame is not None:
-            self.known.append(self.frame.above(place))
+            self.known.append(self.frame.offset(place)[:2])
 
     def ring_of(self, fence: Zone) -> list[Flat]:
         """The outline of a zone; none before the first region."""
         if self.frame is None:
             return []
         if isinstance(fence, Corners):
-            return self.frame.outline([Box(*fence.low, *fence.high)])
+            return ring_above(self.frame, [Box(*fence.low, *fence.high)])
         points = [
             (x / divisor / UM_PER_M, y / divisor / UM_PER_M, z / divisor / UM_PER_M)
             for x, y, z, divisor in corners(fence.sides)
         ]
-        return convex_hull([self.frame.above(point) for point in points])
+        return convex_hull([self.frame.offset(point)[:2] for point in points])
 
     def title(self, number: int) -> str:
         """How many epochs say what of a zone."""

@@ -13,7 +13,7 @@ import math
 
 from gpscover.command import measure
 from gpscover.errors import Error
-from gpscover.geodesy import Vector, dot, geodetic, local_axes
+from gpscover.geodesy import Frame, Vector
 from gpscover.log import GPS_EPOCH, LATEST_PS, PS_PER_MS, PS_PER_US, PathLike, calendar
 
 Place = tuple[int, Vector]  # the time in ps, and x, y, z in m
@@ -117,7 +117,5 @@ def direction(places: list[Place], ps: int) -> float | None:
     if not at_time and (before < 0 or behind == len(places)):
         return None
     start, end = places[max(before, 0)][1], places[min(behind, len(places) - 1)][1]
-    east, north, _ = local_axes(*geodetic(start)[:2])
-    way = [b - a for a, b in zip(start, end)]
-    along = dot(east, way), dot(north, way)
-    return math.atan2(*along) if math.hypot(*along) >= LEAST_WAY_M else None
+    east, north, _ = Frame.at(start).offset(end)
+    return math.atan2(east, north) if math.hypot(east, north) >= LEAST_WAY_M else None

@@ -8,7 +8,7 @@ from dataclasses import dataclass
 from operator import add, sub
 
 from gpscover.errors import Error
-from gpscover.geodesy import Axes, Vector, dot, geodetic, local_axes
+from gpscover.geodesy import Frame, Vector
 from gpscover.log import UM_PER_M, Box, Epoch
 
 Extent = tuple[float, float]
@@ -18,14 +18,12 @@ FACES = ("-x", "-y", "-z", "+x", "+y", "+z")
 
 
 @dataclass
-class Region:
+class Region(Frame):
     """Where the kept boxes of an epoch lie.
 
     `extents` are (low, high) along east, north, up from `origin`.
     """
 
-    origin: Vector  # x, y, z in m; the axes are those at this point
-    axes: Axes  # the unit vectors east, north, up
     extents: tuple[Extent, Extent, Extent]
     clock: Extent  # the least and the greatest clock offset in m
     volume: float  # of the kept boxes, in m^3
@@ -40,15 +38,9 @@ class Region:
         east, north, up = ((low + high) / 2 for low, high in self.extents)
         return self.point((east, north, up))
 
-    def point(self, offset: Sequence[float]) -> Vector:
-        """The point x, y, z at an offset along east, north and up from the origin."""
-        x, y, z = (self.origin[k] + sum(offset[j] * self.axes[j][k] for j in range(3)) for k in range(3))
-        return x, y, z
-
     def contains(self, point: Sequence[float]) -> bool:
         """Whether a point is within the extents along each of the three axes."""
-        offset = [p - o for p, o in zip(point, self.origin)]
-        return all(low <= dot(axis, offset) <= high for axis, (low, high) in zip(self.axes, self.extents))
+        return all(low <= part <= high for part, (low, high) in zip(self.offset(point), self.extents))
 
 
 def upward(value: float) -> float:
@@ -102,14 +94,14 @@ def region_of(epoch: Epoch, origin: Sequence[float] | None = None) -> Region:
     if origin is not None:
         origin_um = [round(value * UM_PER_M) for value in origin]
     x, y, z = (value / UM_PER_M for value in origin_um)
-    axes = local_axes(*geodetic((x, y, z))[:2])
+    frame = Frame.at((x, y, z))
     centres = [offset_of(box, origin_um) for box in boxes]
     halves = [half_sides(box) for box in boxes]
-    east, north, up = (extent_along(axis, centres, halves) for axis in axes)
+    east, north, up = (extent_along(axis, centres, halves) for axis in frame.axes)
     lows, highs = zip(*(kept.clock for kept in epoch.kept))
     return Region(
-        (x, y, z),
-        axes,
+        frame.origin,
+        frame.axes,
         (east, north, up),
         (min(lows) / UM_PER_M, max(highs) / UM_PER_M),
         sum(8 * p * q * r for p, q, r in halves),

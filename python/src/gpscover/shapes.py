@@ -46,7 +46,7 @@ from typing import Any
 
 from gpscover.command import Command, measure
 from gpscover.errors import Error
-from gpscover.geodesy import Vector, dot, earth_fixed, geodetic, local_axes
+from gpscover.geodesy import Frame, Vector, earth_fixed, geodetic, local_axes
 from gpscover.log import PathLike, epochs
 from gpscover.outline import Flat
 from gpscover.places import Meetings
@@ -178,29 +178,15 @@ def prism(name: str, faces: list[Face], points: list[Vector], purpose: str) -> l
 # ---- shapes over the ground
 
 
-class Ground:
+class Ground(Frame):
     """The plane that touches the ellipsoid below a place: east, north and up in metres, from that place."""
 
     def __init__(self, latitude: float, longitude: float) -> None:
-        self.place = (latitude, longitude)
-        self.axes = local_axes(latitude, longitude)
-        self.origin = earth_fixed(latitude, longitude, 0.0)
+        super().__init__(earth_fixed(latitude, longitude, 0.0), local_axes(latitude, longitude))
 
     def local(self, latitude: float, longitude: float, height: float) -> Vector:
         """East, north and up of a point."""
-        away = [p - o for p, o in zip(earth_fixed(latitude, longitude, height), self.origin)]
-        east, north, up = (dot(away, axis) for axis in self.axes)
-        return east, north, up
-
-    def direction(self, parts: Vector) -> Vector:
-        """A vector of east, north and up parts in the earth-fixed frame."""
-        x, y, z = (sum(part * axis[i] for part, axis in zip(parts, self.axes)) for i in range(3))
-        return x, y, z
-
-    def point(self, parts: Vector) -> Vector:
-        """A point of east, north and up in the earth-fixed frame."""
-        x, y, z = (o + d for o, d in zip(self.origin, self.direction(parts)))
-        return x, y, z
+        return self.offset(earth_fixed(latitude, longitude, height))
 
 
 def upright(ground: Ground, rings: list[list[Vector]], low: float, high: float) -> Shape:
