@@ -114,7 +114,7 @@ def write_frame(frame: Any, path: str) -> None:
     try:
         frame.astype({"ps": str} if "ps" in frame else {}).to_parquet(path)
     except ImportError:
-        raise Error("Parquet needs pyarrow or fastparquet") from None
+        raise Error("Parquet needs pyarrow or fastparquet; Debian 12 has neither, pip has both") from None
 
 
 def arguments(parser: argparse.ArgumentParser) -> None:
