@@ -16,7 +16,7 @@ from gpscover.command import measure
 from gpscover.geodesy import Frame, Vector, dot
 from gpscover.log import UM_PER_M, Epoch
 from gpscover.places import Meetings, Place, direction
-from gpscover.region import Region, extent_along, half_sides, offset_of, upward
+from gpscover.region import Region, extent_along, half_sides, offsets, upward
 
 Pair = tuple[float, float]  # along the ground, and up or down; in m
 
@@ -108,7 +108,7 @@ class Corners:
     def __init__(self, epoch: Epoch, point: Vector) -> None:
         origin = in_um(point)
         self.east, self.north, self.up = Frame.at(point).axes
-        self.centres = [offset_of(kept.box, origin) for kept in epoch.kept]
+        self.centres = offsets(epoch.boxes, origin)
         self.halves = [half_sides(kept.box) for kept in epoch.kept]
 
     def farthest(self, axis: Sequence[float]) -> float:

@@ -41,6 +41,8 @@ HEADS = "gpscover 1", "gpscover 2", "gpscover 3"
 LATEST_PS = 4 * 10**21  # times of a log lie before it
 LONGEST = 24  # characters of a number of a log, few enough to be a floating-point number too
 SATELLITE = re.compile("[GE][0-9]{2}")
+AXES = {"0": 0, "1": 1, "2": 2}
+END_OF_FACE = {"0": 0, "1": 3, "2": 1, "3": 4, "4": 2, "5": 5}  # which end of a box a face is
 CLOSING = {"out": 1, "edge": 3, "in": 4}  # lines that close a box, and how many numbers each has
 
 
@@ -283,7 +285,7 @@ def satellite_of(word: str) -> str:
 def row_of(words: list[str]) -> Row:
     """The row of a `sat` line. On one without a last pair the error is the same at every point."""
     ends = wholes(words[2:], len(words) - 2)
-    pairs = [Interval(*pair) for pair in zip(ends[::2], ends[1::2], strict=True)]
+    pairs = list(map(Interval._make, zip(ends[::2], ends[1::2], strict=True)))
     if words[0] != "sat" or len(pairs) not in (5, 6):
         raise ValueError
     place = (pairs[0], pairs[1], pairs[2])
@@ -327,32 +329,25 @@ class Fold:
             clock = Interval(numbers[-2], numbers[-1])
             self.epoch.kept.append(Kept(box_of(box), words[0] == "in", clock, self.rows))
 
-    def halve(self, words: list[str]) -> None:
+    def halve(self, identity: int, axis: int) -> None:
         """Puts the two halves of a box into the live boxes, under the next two numbers."""
-        _, identity, along = words
-        low, axis, following = self.live.pop(int(identity)), int(along), self.following
-        if not 0 <= axis < 3:
-            raise ValueError
+        low, following = self.live.pop(identity), self.following
         high = low.copy()
         middle = (low[axis] + low[axis + 3]) // 2
         low[axis + 3], high[axis] = middle, middle + 1
         self.live[following], self.live[following + 1] = low, high
         self.following = following + 2
 
-    def cut(self, words: list[str]) -> None:
-        """Gives a box a new end at one of its faces."""
-        _, identity, number, bound = words
-        face = int(number)
-        if not 0 <= face < 6:
-            raise ValueError
-        self.live[int(identity)][face // 2 + 3 * (face % 2)] = whole(bound)
-
     def step(self, words: list[str]) -> None:
-        """Takes a step."""
+        """Takes a step. Most of a log are cuts, which give a box a new end at one of its faces."""
         if words[0] == "cut":
-            self.cut(words)
+            _, identity, face, bound = words
+            if len(bound) > LONGEST:
+                raise ValueError
+            self.live[int(identity)][END_OF_FACE[face]] = int(bound)
         elif words[0] == "split":
-            self.halve(words)
+            _, identity, axis = words
+            self.halve(int(identity), AXES[axis])
         else:
             self.close(words)
         self.steps += 1

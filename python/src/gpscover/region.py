@@ -54,14 +54,13 @@ def half_sides(box: Box) -> Vector:
     return (d - a) / TWICE_UM, (e - b) / TWICE_UM, (f - c) / TWICE_UM
 
 
-def offset_of(box: Box, origin: Sequence[int]) -> Vector:
-    """The middle of a box as seen from an origin in um, in m.
+def offsets(boxes: Iterable[Box], origin: Sequence[int]) -> list[Vector]:
+    """The middles of boxes as seen from an origin in um, in m.
 
-    The difference is taken in whole numbers.
+    The differences are taken in whole numbers.
     """
-    a, b, c, d, e, f = box
-    x, y, z = origin
-    return ((a + d - 2 * x) / TWICE_UM, (b + e - 2 * y) / TWICE_UM, (c + f - 2 * z) / TWICE_UM)
+    x, y, z = (2 * part for part in origin)
+    return [((a + d - x) / TWICE_UM, (b + e - y) / TWICE_UM, (c + f - z) / TWICE_UM) for a, b, c, d, e, f in boxes]
 
 
 def extent_along(axis: Sequence[float], centres: Sequence[Vector], halves: Sequence[Vector]) -> Extent:
@@ -95,7 +94,7 @@ def region_of(epoch: Epoch, origin: Sequence[float] | None = None) -> Region:
         origin_um = [round(value * UM_PER_M) for value in origin]
     x, y, z = (value / UM_PER_M for value in origin_um)
     frame = Frame.at((x, y, z))
-    centres = [offset_of(box, origin_um) for box in boxes]
+    centres = offsets(boxes, origin_um)
     halves = [half_sides(box) for box in boxes]
     east, north, up = (extent_along(axis, centres, halves) for axis in frame.axes)
     lows, highs = zip(*(kept.clock for kept in epoch.kept))
