@@ -117,8 +117,7 @@ def ended(module, *words):
 
 @contextlib.contextmanager
 def written(**texts):
-    """The paths of files with these texts, in their order, in a folder that is removed behind
-    it."""
+    """The paths of files with these texts, in their order, in a folder that is removed behind it."""
     with tempfile.TemporaryDirectory() as room:
         paths = [Path(room) / name for name in texts]
         for path, text in zip(paths, texts.values()):

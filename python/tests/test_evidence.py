@@ -1,8 +1,7 @@
 """Evidence of a run, by the program of GPSCOVER or of ./gpscover.
 
-A bundle is made of one epoch of the example with eight splits, and one of a track of two. Then it
-is checked in another folder, and each of sixteen changes of the one and three of the other has to
-be told by the line that it concerns.
+A bundle is made of one epoch of the example with eight splits, and one of a track of two. Then it is checked in another
+folder, and each of sixteen changes of the one and three of the other has to be told by the line that it concerns.
 """
 
 import os
@@ -77,8 +76,7 @@ def receiver_in(room, more="", change=lambda text: text):
 
 
 def bundle_of(room, files, last, track=False):
-    """A bundle of the epochs up to a last one, the status of making it, and what it says by the
-    names of its lines."""
+    """A bundle of the epochs up to a last one, the status of making it, and what it says by the names of its lines."""
     command, more = ("track", ["--track"]) if track else ("solve", [])
     options = ["--to", str(last)]
     subprocess.run([PROGRAM, command, *files, *options], stdout=subprocess.DEVNULL, check=True)

@@ -242,8 +242,7 @@ class TestWords:
 
 class TestTracks:
     def direction(self, *points, at=0):
-        """The azimuth in degrees at a time in s of a track with one place a second, from y and z at
-        the equator."""
+        """The azimuth in degrees at a time in s of a track with one place a second, from y and z at the equator."""
         track = [(k * 10**12, (6378137, y, z)) for k, (y, z) in enumerate(points)]
         found = places.direction(track, round(at * 10**12))
         return None if found is None else round(math.degrees(found), 3)

@@ -18,8 +18,7 @@ def area(polygon):
 
 
 def shadow(box, across):
-    """The area of a box as seen along a unit vector: each of three faces times how far it is
-    turned."""
+    """The area of a box as seen along a unit vector: each of three faces times how far it is turned."""
     x, y, z = (2 * half for half in region.half_sides(box))
     return y * z * abs(across[0]) + x * z * abs(across[1]) + x * y * abs(across[2])
 

@@ -21,8 +21,7 @@ def said(*words):
 
 
 def by_outcomes(chances, outliers):
-    """The probability that more than so many events come, from all outcomes of independent
-    events."""
+    """The probability that more than so many events come, from all outcomes of independent events."""
     total = Fraction(0)
     for outcome in itertools.product((True, False), repeat=len(chances)):
         if sum(outcome) > outliers:

@@ -114,8 +114,7 @@ def drawn_place(draw):
 
 
 def around(draw, place):
-    """A point within the radius and the heights of a place, or at their edge, in the plane below
-    it."""
+    """A point within the radius and the heights of a place, or at their edge, in the plane below it."""
     latitude, longitude, height, radius, up = place
     ground = shapes.Ground(math.radians(latitude), math.radians(longitude))
     far, turn = radius * draw.choice((1, math.sqrt(draw.random()))), draw.uniform(0, 2 * math.pi)

@@ -1,23 +1,22 @@
-"""What a region says of a known place: whether it is in a kept box, and how far the boxes reach
-from it.
+"""What a region says of a known place: whether it is in a kept box, and how far the boxes reach from it.
 
-All lengths are of the declared bounds and hold while these do; none of them is of a probability. A
-receiver doesn't know its place. So what a user of the region can do is judged by its middle: the
-middle is the position that is reported, the farthest corner from it the protection, and how far it
-is from the known place the error.
+All lengths are of the declared bounds and hold while these do; none of them is of a probability. A receiver doesn't
+know its place. So what a user of the region can do is judged by its middle: the middle is the position that is
+reported, the farthest corner from it the protection, and how far it is from the known place the error.
 """
 
 from __future__ import annotations
 
+import argparse
 import math
 from collections.abc import Iterator, Sequence
 from dataclasses import dataclass
 
 from gpscover.command import measure
-from gpscover.geodesy import Vector, dot, geodetic, local_axes
+from gpscover.geodesy import Frame, Vector, dot
 from gpscover.log import UM_PER_M, Epoch
 from gpscover.places import Meetings, Place, direction
-from gpscover.region import Region, extent_along, half_sides, offset_of, upward
+from gpscover.region import Region, extent_along, half_sides, offsets, upward
 
 Pair = tuple[float, float]  # along the ground, and up or down; in m
 
@@ -55,9 +54,7 @@ class Numbers:
         return not cut and limits.hold(self.reach)
 
     def is_hazardous(self, limits: Limits, cut: bool) -> bool:
-        """Whether the middle is farther from the place than a limit, and the region says that it
-        isn't.
-        """
+        """Whether the middle is farther from the place than a limit, and the region says that it isn't."""
         return self.is_available(limits, cut) and not limits.hold(self.error)
 
 
@@ -67,6 +64,12 @@ def alert_limit(text: str) -> float:
     if length <= 0:
         raise ValueError
     return length
+
+
+def limit_argument(parser: argparse.ArgumentParser) -> None:
+    """The word of the two alert limits."""
+    told = "alert limits along the ground and up, m"
+    parser.add_argument("--limit", type=alert_limit, nargs=2, metavar=("H", "V"), help=told)
 
 
 def in_um(point: Sequence[float]) -> list[int]:
@@ -87,9 +90,8 @@ def in_search_box(epoch: Epoch, point: Vector) -> bool:
 def farthest_along_ground(centres: list[Vector], halves: list[Vector], east: Vector, north: Vector) -> float:
     """How far the farthest of the boxes' corners is from the origin along the ground.
 
-    A box is seen from above as its middle c and the half sides v of three directions; its corners
-    are c + w and c - w for the four w = v0 +- v1 +- v2, and the farther of these two is at
-    sqrt(|c|^2 + |w|^2 + 2 |c w|).
+    A box is seen from above as its middle c and the half sides v of three directions; its corners are c + w and c - w
+    for the four w = v0 +- v1 +- v2, and the farther of these two is at sqrt(|c|^2 + |w|^2 + 2 |c w|).
     """
     most = 0.0
     for centre, half in zip(centres, halves):
@@ -105,8 +107,8 @@ class Corners:
 
     def __init__(self, epoch: Epoch, point: Vector) -> None:
         origin = in_um(point)
-        self.east, self.north, self.up = local_axes(*geodetic(point)[:2])
-        self.centres = [offset_of(kept.box, origin) for kept in epoch.kept]
+        self.east, self.north, self.up = Frame.at(point).axes
+        self.centres = offsets(epoch.boxes, origin)
         self.halves = [half_sides(kept.box) for kept in epoch.kept]
 
     def farthest(self, axis: Sequence[float]) -> float:
@@ -128,9 +130,8 @@ class Corners:
 
 def apart(place: Vector, point: Vector) -> Pair:
     """How far a point is from a place along the ground, and up or down, in m."""
-    east, north, up = local_axes(*geodetic(place)[:2])
-    way = [b - a for a, b in zip(place, point)]
-    return math.hypot(dot(east, way), dot(north, way)), abs(dot(up, way))
+    east, north, up = Frame.at(place).offset(point)
+    return math.hypot(east, north), abs(up)
 
 
 def numbers_of(epoch: Epoch, region: Region, place: Vector, azimuth: float | None = None) -> Numbers:
@@ -200,8 +201,7 @@ class Judge:
         """How many regions hold the known place."""
         known = self.epochs - self.placeless
         return (
-            f"known places: {known} epochs have one and {self.regions} of these a region, which"
-            f" holds it in {self.held}"
+            f"known places: {known} epochs have one and {self.regions} of these a region, which holds it in {self.held}"
         )
 
     def limit_lines(self) -> Iterator[str]:

@@ -1,6 +1,4 @@
-"""The outline of boxes as seen along an axis: the convex hull of their corners in a plane of two
-local axes.
-"""
+"""The outline of boxes as seen along an axis: the convex hull of their corners in a plane of two local axes."""
 
 from __future__ import annotations
 
@@ -19,7 +17,7 @@ def half_hull(points: list[Flat]) -> list[Flat]:
     for x, y in points:
         # the last corner goes where the way over it to this point doesn't turn left
         while len(hull) > 1:
-            (a, b), (c, d) = hull[-2:]
+            (a, b), (c, d) = hull[-2], hull[-1]
             if (c - a) * (y - b) > (d - b) * (x - a):
                 break
             hull.pop()
@@ -46,9 +44,8 @@ def ends_along(points: Iterable[Corner], axis: int) -> set[Corner]:
 
 
 def outer_corners(boxes: Iterable[Box]) -> set[Corner]:
-    """Corners of the boxes, among which are those of their convex hull: of those on a line along an
-    axis only two are.
-    """
+    """Corners of the boxes, among which are those of their convex hull: of those on a line along an axis only two
+    are."""
     lines: dict[tuple[int, int], tuple[int, int]] = {}
     for a, b, c, d, e, f in boxes:
         for line in ((b, c), (b, f), (e, c), (e, f)):

@@ -54,14 +54,13 @@ SHOWN_OUTLIERS = range(5)
 DIGITS = 3
 LONG_EXPONENT = re.compile(r"[eE][+-]?[\d_]{4}")  # of a fraction that no memory holds
 ASSUMED = (
-    ("assumed: each satellite's error breaks its bounds with probability at most p, and they do" " so independently;"),
-    ("where one cause breaks many at once (a wall, a fault of the constellation) these numbers" " mean nothing"),
+    "assumed: each satellite's error breaks its bounds with probability at most p, and they do so independently;",
+    "where one cause breaks many at once (a wall, a fault of the constellation) these numbers mean nothing",
 )
 
 
 def chance_of_more(satellites: int, outliers: int, p: Fraction) -> Fraction:
-    """The probability that more than so many satellites break their bounds, if each does with
-    probability p."""
+    """The probability that more than so many satellites break their bounds, if each does with probability p."""
     counts = range(outliers + 1, satellites + 1)
     return sum((comb(satellites, k) * p**k * (1 - p) ** (satellites - k) for k in counts), Fraction(0))
 
@@ -72,8 +71,7 @@ def least_outliers(satellites: int, p: Fraction, risk: Fraction) -> int:
 
 
 def greatest_p(satellites: int, outliers: int, risk: Fraction) -> tuple[Fraction, Fraction | None]:
-    """The greatest p of three digits that is borne, and the next one, which isn't; (1, None) where
-    each p is.
+    """The greatest p of three digits that is borne, and the next one, which isn't; (1, None) where each p is.
 
     The probability grows with p, so p is found by halving: first its exponent, then its digits.
     """
@@ -110,8 +108,7 @@ def mark_of(satellites: int, outliers: int) -> str:
 
 
 def answered(satellites: int, args: argparse.Namespace) -> tuple[int, tuple[str, ...]]:
-    """q, its probability or the p borne and the one that isn't, and the mark, for so many
-    satellites."""
+    """q, its probability or the p borne and the one that isn't, and the mark, for so many satellites."""
     if args.p is None:
         borne, more = greatest_p(satellites, args.q, args.risk)
         return args.q, (decimal_of(borne, decimal.ROUND_FLOOR), decimal_of(more) if more else "none")
@@ -169,8 +166,7 @@ def epochs_by_satellites(path: PathLike) -> list[tuple[int, int]]:
 
 
 def sum_line(counts: list[tuple[int, int]], args: argparse.Namespace) -> str:
-    """The sum over the paved epochs, which bounds the probability that it happens in any of
-    them."""
+    """The sum over the paved epochs, which bounds the probability that it happens in any of them."""
     chance, paved = Fraction(0), 0
     for satellites, count in counts:
         outliers, _ = answered(satellites, args)

@@ -46,10 +46,10 @@ from typing import Any
 
 from gpscover.command import Command, measure
 from gpscover.errors import Error
-from gpscover.geodesy import Vector, dot, earth_fixed, geodetic, local_axes
+from gpscover.geodesy import Frame, Vector, earth_fixed, geodetic, local_axes
 from gpscover.log import PathLike, epochs
 from gpscover.outline import Flat
-from gpscover.places import Meetings, read_places
+from gpscover.places import Meetings
 from gpscover.zones import GREATEST, LONGEST, Side, Whole
 
 MOST_SIDES = 16
@@ -109,8 +109,7 @@ def grown(faces: list[Face], points: list[Vector]) -> list[Side]:
 
 
 def limits(faces: list[Face]) -> list[tuple[Vector, Fraction]]:
-    """The half-spaces (out, most) of a shape: each ends at the innermost of its face's points, in
-    um."""
+    """The half-spaces (out, most) of a shape: each ends at the innermost of its face's points, in um."""
     return [(face.out, min(product(face.out, in_um(point)) for point in face.points)) for face in faces]
 
 
@@ -179,30 +178,15 @@ def prism(name: str, faces: list[Face], points: list[Vector], purpose: str) -> l
 # ---- shapes over the ground
 
 
-class Ground:
-    """The plane that touches the ellipsoid below a place: east, north and up in metres, from that
-    place."""
+class Ground(Frame):
+    """The plane that touches the ellipsoid below a place: east, north and up in metres, from that place."""
 
     def __init__(self, latitude: float, longitude: float) -> None:
-        self.place = (latitude, longitude)
-        self.axes = local_axes(latitude, longitude)
-        self.origin = earth_fixed(latitude, longitude, 0.0)
+        super().__init__(earth_fixed(latitude, longitude, 0.0), local_axes(latitude, longitude))
 
     def local(self, latitude: float, longitude: float, height: float) -> Vector:
         """East, north and up of a point."""
-        away = [p - o for p, o in zip(earth_fixed(latitude, longitude, height), self.origin)]
-        east, north, up = (dot(away, axis) for axis in self.axes)
-        return east, north, up
-
-    def direction(self, parts: Vector) -> Vector:
-        """A vector of east, north and up parts in the earth-fixed frame."""
-        x, y, z = (sum(part * axis[i] for part, axis in zip(parts, self.axes)) for i in range(3))
-        return x, y, z
-
-    def point(self, parts: Vector) -> Vector:
-        """A point of east, north and up in the earth-fixed frame."""
-        x, y, z = (o + d for o, d in zip(self.origin, self.direction(parts)))
-        return x, y, z
+        return self.offset(earth_fixed(latitude, longitude, height))
 
 
 def upright(ground: Ground, rings: list[list[Vector]], low: float, high: float) -> Shape:
@@ -238,7 +222,7 @@ def place_lines(name: str, place: Sequence[float], radius: float, up: float, pur
 
 def reported_lines(name: str, path: PathLike, log: PathLike, radius: float, up: float, purpose: str) -> list[str]:
     """A place for each epoch of a log that has one in a list of places, within 0.1 s."""
-    meetings = Meetings(path, read_places(path))
+    meetings = Meetings.of(path)
     written: list[str] = []
     for epoch in epochs(log):
         place = meetings.at(epoch.ps)
@@ -291,8 +275,7 @@ def is_convex(flat: list[Flat]) -> bool:
 
 
 def triangles(flat: list[Flat]) -> list[tuple[int, ...]]:
-    """A counterclockwise polygon cut into triangles, as the places of their corners: one ear after
-    another."""
+    """A counterclockwise polygon cut into triangles, as the places of their corners: one ear after another."""
     left = list(range(len(flat)))
     found: list[tuple[int, ...]] = []
     while len(left) > 3:
@@ -305,8 +288,7 @@ def triangles(flat: list[Flat]) -> list[tuple[int, ...]]:
 
 
 def is_ear(flat: list[Flat], left: list[int], k: int) -> bool:
-    """Whether the corner turns left, and no other corner lies in the triangle with its
-    neighbours."""
+    """Whether the corner turns left, and no other corner lies in the triangle with its neighbours."""
     a, b, c = (flat[left[i % len(left)]] for i in (k - 1, k, k + 1))
     if turns_left(a, b, c) <= 0:
         return False

@@ -54,7 +54,7 @@ from gpscover import kml
 from gpscover.command import Command, measure, whole_file
 from gpscover.errors import Error, UsageError
 from gpscover.geodesy import geodetic
-from gpscover.integrity import Judge, Limits, Numbers, alert_limit
+from gpscover.integrity import Judge, Limits, Numbers, limit_argument
 from gpscover.log import PS_PER_MS, UM_PER_M, Box, Epoch, PathLike, SkipReason, calendar, epochs
 from gpscover.observations import file_epochs
 from gpscover.places import Meetings, read_places
@@ -113,9 +113,7 @@ def mark_of(epoch: Epoch, region: Region | None) -> str:
 
 
 def text_cells(epoch: Epoch, region: Region | None) -> list[str]:
-    """The values of an epoch as its line shows them, up to the mark; without a region the first
-    three.
-    """
+    """The values of an epoch as its line shows them, up to the mark; without a region the first three."""
     cells = [str(epoch.index), calendar(epoch.ps), str(epoch.satellites)]
     if region is None:
         return cells
@@ -262,8 +260,7 @@ class Totals:
             yield f"every paved epoch is empty; {self.why_empty()}"
         elif empty:
             yield (
-                f"{empty} of {paved} paved epochs are empty: more satellites than allowed broke"
-                f" their bounds, {LEFT}"
+                f"{empty} of {paved} paved epochs are empty: more satellites than allowed broke their bounds, {LEFT}"
             )
         if reaches and reaches == self.regions:
             yield f"every region reaches the search box; {self.why_reaches()}"
@@ -276,9 +273,7 @@ class Totals:
             yield f"no Galileo satellite is used; {self.why_no_galileo()}"
 
     def box(self) -> tuple[list[int], list[int]]:
-        """The least search box that holds all kept boxes: its centre and its half sides in whole
-        mm.
-        """
+        """The least search box that holds all kept boxes: its centre and its half sides in whole mm."""
         if self.hull is None:
             raise Error("no epoch has a region")
         low = [end // UM_PER_MM for end in self.hull[:3]]
@@ -359,9 +354,7 @@ def place_arguments(parser: argparse.ArgumentParser) -> None:
         "--azimuth", type=measure, metavar="A", help="look along and across A degrees from north, clockwise"
     )
     way.add_argument("--along", metavar="FILE", help="look along and across a track, a list of places")
-    parser.add_argument(
-        "--limit", type=alert_limit, nargs=2, metavar=("H", "V"), help="alert limits along the ground and up, m"
-    )
+    limit_argument(parser)
 
 
 def arguments(parser: argparse.ArgumentParser) -> None:
@@ -386,7 +379,7 @@ def judge_of(args: argparse.Namespace) -> Judge | None:
     azimuth = None if args.azimuth is None else math.radians(args.azimuth)
     track = None if args.along is None else read_places(args.along)
     limits = None if args.limit is None else Limits(*args.limit)
-    return Judge(Meetings(args.places, read_places(args.places)), azimuth, track, limits)
+    return Judge(Meetings.of(args.places), azimuth, track, limits)
 
 
 def print_text(args: argparse.Namespace, outlines: TextIO | None, judge: Judge | None) -> Totals:
