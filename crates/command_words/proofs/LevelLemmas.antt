@@ -236,10 +236,10 @@ calm name seen (word ∷ words) = calm name (seen ++ word ∷ []) words
 abbrev pub told_by : Walk → Kinds → Option Command
 told_by w faults =
     if is_empty (or_else faults
-        (or_else (entered_fault (built program) w.stopped)
-        (or_else (settle_fault top.rules top.args_override_self w.held)
-        (or_else (defaults_fault (settled top.rules w.held).rows top.rules)
-        (check_fault top (finished top.rules w.held) (is_some (entered (built program) w.stopped)))))))
+    (or_else (entered_fault (built program) w.stopped)
+    (or_else (settle_fault top.rules top.args_override_self w.held)
+    (or_else (defaults_fault (settled top.rules w.held).rows top.rules)
+    (check_fault top (finished top.rules w.held) (is_some (entered (built program) w.stopped)))))))
     then command_said (entered (built program) w.stopped) else None
 
 pub said_of : (name : Text) (words : List Text)

@@ -1,10 +1,12 @@
 -- The log that `solve` writes, against the files.
-use Rattle.std.proofs.Common.{◌≡◌, ℕ, Bool, List, Option, None, Some, Ok, Err, refl, ap, subst, ◌∙◌}
-use Rattle.std.specs.Prelude.{option_map}
+use Rattle.std.proofs.Common.{◌≡◌, ℕ, Bool, List, Option, None, Some, Ok, Err, inl, inr, refl, ap, subst, ◌∙◌, arith}
+use Rattle.std.specs.Prelude.{ℤ, option_map}
 use Rattle.sharpness_laws.proofs.LogLemmas.{begun_clear, whole_clear}
 use Rattle.sharpness_laws.specs.UsableRows.{AllDistinctIf}
 use Rattle.epoch_rows.proofs.CameLemmas.{whole_admits, whole_covers}
 use Rattle.epoch_rows.specs.EpochsLeft.{EpochsLeft, source_of}
+use Rattle.epoch_rows.specs.Ready.{SkipsFit}
+use Rattle.epoch_selection.specs.Searches.{searches_in}
 use Rattle.epoch_selection.specs.declared.selection.Selection.{Selection}
 use Rattle.error_bounds.specs.declared.settings.Settings.{Settings}
 use Rattle.gnss_model.specs.declared.delays.Delays.{Delays}
@@ -12,14 +14,16 @@ use Rattle.input_files.specs.declared.inputs.Inputs.{Inputs}
 use Rattle.log_writer.specs.Texts.{IsText}
 use Rattle.grid_model.specs.Boxes.{GridBox}
 use Rattle.sat_model.specs.declared.rules.Rules.{Rules}
+use Rattle.gnss_model.specs.declared.satellites.Skip.{Skip}
+use Rattle.log_tokens.specs.Fields.{SkipFits}
+use Rattle.paving_log_check.specs.Admissible.{Admits}
 use Rattle.rinex_nav.specs.declared.record.NavRecord.{NavRecord}
 use Rattle.sat_rows.specs.Meanings.{IsSound, Meaning}
 use Rattle.station_epochs.specs.Stations.{Station, station_of}
 use Rattle.station_rows.specs.Laws.{rows_sound}
-use Rattle.station_rows.specs.Stations.{rows_meaning}
+use Rattle.station_rows.specs.Stations.{IsJudgedByBoth, rows_meaning}
 use Rattle.station_rows.specs.declared.sources.FileRows.{FileRows}
-use Rattle.paving_log_check.specs.Admissible.{Admits}
-use Rattle.epoch_selection.specs.Searches.{searches_in}
+use Rattle.usable_sats.specs.Usability.{Sighting, IsJudged}
 use Rattle.cover_run.specs.Solving.{IsRootOf, IsSolution, epoch_source, epochs_of, meaning_of, standing, station_in}
 use Rattle.cover_run.specs.Writing.{Answer}
 
@@ -34,6 +38,32 @@ rows_delays records settings (Some station) = refl
 
 pub files_delays : (i : Inputs) → (meaning_of i).delays ≡ i.settings.delays
 files_delays i = rows_delays i.nav i.settings (option_map station_in i.station)
+
+-- each reason not to use a satellite can stand in a log
+alone_fits : (delays : Delays) (root : GridBox) (a : Sighting) (skip : Skip)
+    → IsJudged delays root a (Some skip) → SkipFits skip
+alone_fits delays root a skip (inl (inl k)) = inl (inl (omega (arith, k.0), omega (arith, k.0)), k.1)
+alone_fits delays root a skip (inl (inr (inl k))) = inl (inl (omega (arith, k.0), omega (arith, k.0)), k.1)
+alone_fits delays root a skip (inl (inr (inr (inl k)))) = inl (inl (omega (arith, k.0), omega (arith, k.0)), k.1)
+alone_fits delays root a skip (inl (inr (inr (inr (inl k))))) = inl (inl (omega (arith, k.0), omega (arith, k.0)), k.1)
+alone_fits delays root a skip (inl (inr (inr (inr (inr (inl k)))))) = inl (inl (omega (arith, k.0), omega (arith, k.0)), k.1)
+alone_fits delays root a skip (inl (inr (inr (inr (inr (inr k)))))) =
+    inr (k.0, (omega (arith, k.1.first.from), omega (arith, k.1.first.to)))
+alone_fits delays root a skip (inr low) = inl (inr (omega (arith, low.number), omega (arith, low.number)), low.field)
+
+both_fits : (delays : Delays) (root : GridBox) (station : Station) (a : Sighting) (skip : Skip)
+    → IsJudgedByBoth delays root station a (Some skip) → SkipFits skip
+both_fits delays root station a skip (inl alone) = alone_fits delays root a skip alone
+both_fits delays root station a skip (inr (inl lacks)) =
+    inl (inr (omega (arith, lacks.number), omega (arith, lacks.number)), lacks.field)
+both_fits delays root station a skip (inr (inr far)) =
+    inl (inr (omega (arith, far.number), omega (arith, far.number)), far.field)
+
+pub rows_skips : (records : List NavRecord) (settings : Settings) (station : Option Station)
+    → SkipsFit (rows_meaning records settings station)
+rows_skips records settings None = λ root tag seen skip judged. alone_fits settings.delays root _ skip judged
+rows_skips records settings (Some station) =
+    λ root tag seen skip judged. both_fits settings.delays root station _ skip judged
 
 -- a source of their rows says what they say
 pub rows_mean : (i : Inputs) (rows : FileRows) → rows.nav.now ≡ i.nav → rows.settings.now ≡ i.settings
@@ -80,8 +110,7 @@ solution_of chosen i root last limit (Ok done) bytes said is_root distinct text 
       last = last;
       whole = text;
       admits = λ owns are. subst (λ (delays : Delays).
-          Admits delays (searches_in root (epochs_of chosen i)) owns rules text.log)
-          (files_delays i)
+          Admits delays (searches_in root (epochs_of chosen i)) owns rules text.log) (files_delays i)
           (whole_admits m sound renews rules left last refl limit bytes said text owns are);
       cover = whole_covers m sound renews rules left last refl limit bytes said text;
       nothing_clear = whole_clear m sound renews rules left refl distinct limit bytes said last text;

@@ -38,8 +38,8 @@ use Rattle.sat_model.specs.Logs.{Block, LogValue, is_few}
 use Rattle.sat_model.specs.declared.rules.Rules.{Rules}
 use Rattle.sat_rows.specs.Meanings.{Meaning}
 use Rattle.tube_searches.proofs.FoundLemmas.{found_by}
-use Rattle.input_files.specs.declared.inputs.Inputs.{Inputs}
 use Rattle.tube_searches.specs.Tubes.{tube_searches}
+use Rattle.input_files.specs.declared.inputs.Inputs.{Inputs}
 use Rattle.cover_run.proofs.SolvingLemmas.{files_delays, files_sound}
 use Rattle.cover_run.specs.Solving.{epoch_source, epochs_of, meaning_of}
 use Rattle.cover_run.specs.Telling.{Sinks, sinks}

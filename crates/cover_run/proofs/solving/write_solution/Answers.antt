@@ -1,5 +1,5 @@
-use Rattle.std.proofs.Common.{[], List, None, length, ap, rules, subst, sym, ◌∙◌}
 use Rattle.std.specs.Option.{option_map}
+use Rattle.std.proofs.Common.{[], List, None, length, ap, rules, subst, sym, ◌∙◌}
 use Rattle.sharpness_laws.proofs.LogLemmas.{writable_distinct}
 use Rattle.sharpness_laws.specs.UsableRows.{AllDistinctIf}
 use Rattle.epoch_rows.proofs.KeptLemmas.{text_of_epochs}
@@ -14,7 +14,7 @@ use Rattle.rinex_obs.specs.declared.obs.ObsEpoch.{ObsEpoch}
 use Rattle.station_epochs.specs.Stations.{station_of}
 use Rattle.station_rows.specs.Stations.{rows_meaning}
 use Rattle.station_rows.specs.declared.sources.FileRows.{FileRows}
-use Rattle.cover_run.proofs.SolvingLemmas.{rows_mean, solution_of, text_known}
+use Rattle.cover_run.proofs.SolvingLemmas.{rows_mean, rows_skips, solution_of, text_known}
 use Rattle.cover_run.proofs.WritingLemmas.{writes_as}
 use Rattle.cover_run.specs.Solving.{IsSolution, meaning_of}
 use Rattle.cover_run.proofs.solving.write_solution.Goals as goal
@@ -26,6 +26,8 @@ of_walk-blocks-requires g c =
     (selected c.args.chosen epochs)) (sym c.deref.ensures.value)
     (selected_writable c.args.chosen c.args.inputs.now.obs.epochs.items usual.rising usual.distinct
     usual.named) in
+    let rows = c.rows_of-source.result in
+    let skips = rows_skips rows.nav.now rows.settings.now (option_map station_of rows.station) in
     search rules
 
 pub returns : goal.returns
@@ -51,8 +53,8 @@ returns g c =
     (λ answer bytes said text. solution_of chosen i root behind limit answer bytes said
     c.root.ensures.value distinct
     (text_known (meaning_of i) (meaning b.source.now) b.rules rules b.maker.renews renews _ _ behind
-    limit answer bytes said (ap meaning made.source ∙ rows_mean i c.rows_of-source.result c.rows_of-source.ensures.nav
-    c.rows_of-source.ensures.settings c.rows_of-source.ensures.station) made.rules made.renews here
+    limit answer bytes said (ap meaning made.source ∙ rows_mean i c.rows_of-source.result
+    c.rows_of-source.ensures.nav c.rows_of-source.ensures.settings c.rows_of-source.ensures.station) made.rules made.renews here
     (text_of_epochs (λ x. x.source.now) (λ x. x.rules)
     (λ x. left_of (epochs_left x.walk) (λ blocks. searches_left x.walk)
     (λ tag kept blocks. searches_left x.walk) x.given x.lost)

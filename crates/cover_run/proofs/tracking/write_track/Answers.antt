@@ -1,5 +1,5 @@
-use Rattle.std.proofs.Common.{◌≡◌, ◌≢◌, [], List, ap, length, refl, rules, subst, sym, ◌∙◌}
 use Rattle.std.specs.Option.{option_map}
+use Rattle.std.proofs.Common.{◌≡◌, ◌≢◌, [], List, ap, length, refl, rules, subst, sym, ◌∙◌}
 use Rattle.sharpness_laws.proofs.LogLemmas.{writable_distinct}
 use Rattle.sharpness_laws.specs.UsableRows.{AllDistinctIf}
 use Rattle.epoch_rows.proofs.KeptLemmas.{text_of_epochs}
@@ -16,7 +16,7 @@ use Rattle.station_rows.specs.declared.sources.FileRows.{FileRows}
 use Rattle.rinex_obs.specs.declared.obs.ObsEpoch.{ObsEpoch}
 use Rattle.std.specs.Prelude.{None}
 use Rattle.tube_searches.specs.Tubes.{TubeValue, IsInside, tube_searches, tube_value, with_kept}
-use Rattle.cover_run.proofs.SolvingLemmas.{rows_mean, text_known}
+use Rattle.cover_run.proofs.SolvingLemmas.{rows_mean, rows_skips, text_known}
 use Rattle.cover_run.proofs.TrackingLemmas.{broken_off, told_lost, track_of}
 use Rattle.cover_run.proofs.WritingLemmas.{writes_as}
 use Rattle.cover_run.specs.Solving.{meaning_of}
@@ -31,6 +31,8 @@ of_walk-blocks-requires g c =
     (selected_writable c.args.chosen c.args.inputs.now.obs.epochs.items usual.rising usual.distinct
     usual.named) in
     let inside = subst (λ (t : TubeValue). IsInside t) is tt in
+    let rows = c.rows_of-source.result in
+    let skips = rows_skips rows.nav.now rows.settings.now (option_map station_of rows.station) in
     search rules
 
 pub returns-then-eq : goal.returns-then-eq
@@ -59,8 +61,8 @@ returns-then-eq g c =
     let most = ap (λ (l : EpochsLeft). most_bytes (length l.epochs) given.bisections) here in
     let wrote = writes_as [] _ _ _ _ limit _ _ _ _
     (λ answer bytes said text. text_known (meaning_of i) (meaning b.source.now) b.rules given
-    b.maker.renews renews _ _ behind limit answer bytes said (ap meaning made.source ∙ rows_mean i c.rows_of-source.result c.rows_of-source.ensures.nav
-    c.rows_of-source.ensures.settings c.rows_of-source.ensures.station) made.rules
+    b.maker.renews renews _ _ behind limit answer bytes said (ap meaning made.source ∙ rows_mean i c.rows_of-source.result
+    c.rows_of-source.ensures.nav c.rows_of-source.ensures.settings c.rows_of-source.ensures.station) made.rules
     made.renews here
     (text_of_epochs (λ x. x.source.now) (λ x. x.rules)
     (λ x. left_of (epochs_left x.walk.searches) (λ blocks. tube_searches (tube_value x.walk) blocks)
@@ -101,8 +103,8 @@ returns g c =
     let most = ap (λ (l : EpochsLeft). most_bytes (length l.epochs) given.bisections) here in
     let wrote = writes_as [] _ _ _ _ limit _ _ _ _
     (λ answer bytes said text. text_known (meaning_of i) (meaning b.source.now) b.rules given
-    b.maker.renews renews _ _ behind limit answer bytes said (ap meaning made.source ∙ rows_mean i c.rows_of-source.result c.rows_of-source.ensures.nav
-    c.rows_of-source.ensures.settings c.rows_of-source.ensures.station) made.rules
+    b.maker.renews renews _ _ behind limit answer bytes said (ap meaning made.source ∙ rows_mean i c.rows_of-source.result
+    c.rows_of-source.ensures.nav c.rows_of-source.ensures.settings c.rows_of-source.ensures.station) made.rules
     made.renews here
     (text_of_epochs (λ x. x.source.now) (λ x. x.rules)
     (λ x. left_of (epochs_left x.walk.searches) (λ blocks. tube_searches (tube_value x.walk) blocks)
