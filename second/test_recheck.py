@@ -4,6 +4,7 @@ The verdicts are those of `gpscover check` and `gpscover judge`, or found by han
 the mapping, from docs/EQUATIONS.md. The proved program is asked the same by `check`, `retrack` and `judge`.
 """
 import ast
+import importlib.util
 import re
 import shutil
 import subprocess
@@ -13,9 +14,12 @@ from itertools import product
 from pathlib import Path
 
 import pytest
-import recheck
 
 TOP = Path(__file__).resolve().parent.parent
+# Loaded by its path, for the values that its command line doesn't print: nothing imports it, so that it stands alone.
+SPEC = importlib.util.spec_from_file_location("recheck", TOP / "second/recheck.py")
+recheck = sys.modules[SPEC.name] = importlib.util.module_from_spec(SPEC)
+SPEC.loader.exec_module(recheck)
 DATA = TOP / "crates/gpscover/data"
 FILES = [DATA / name for name in ("receiver.obs", "receiver.nav", "settings.toml")]
 LOG = DATA / "receiver.log"
@@ -1026,14 +1030,24 @@ def test_a_value(what, found, wanted):
     assert found == wanted, what
 
 
+def imported(source):
+    """The modules that a file imports, and what it takes of them."""
+    nodes = list(ast.walk(ast.parse(source.read_text())))
+    names = {alias.name for node in nodes if isinstance(node, ast.Import) for alias in node.names}
+    return names | {f"{'.' * node.level}{node.module or ''}.{alias.name}" for node in nodes
+                    if isinstance(node, ast.ImportFrom) for alias in node.names}
+
+
 def test_it_stands_alone(room):
     """It has the standard library alone, and runs with nothing of the repository beside it."""
     source = TOP / "second/recheck.py"
-    imports = [node for node in ast.walk(ast.parse(source.read_text())) if isinstance(node, (ast.Import, ast.ImportFrom))]
-    names = {alias.name for node in imports if isinstance(node, ast.Import) for alias in node.names}
-    names |= {"." * node.level + (node.module or "") for node in imports if isinstance(node, ast.ImportFrom)}
-    assert {name.partition(".")[0] for name in names} <= sys.stdlib_module_names
+    assert {name.partition(".")[0] for name in imported(source)} <= sys.stdlib_module_names
     shutil.copy(source, room)
     words = [sys.executable, "-I", "recheck.py", *FILES, LOG]
     ran = subprocess.run(words, cwd=room, env={}, capture_output=True, text=True, check=False)
     assert (ran.returncode, ran.stdout, ran.stderr) == (0, "yes 48\n", "")
+
+
+def test_nothing_imports_it():
+    files = [path for folder in ("python", "second", "tools", "workflow") for path in (TOP / folder).rglob("*.py")]
+    assert files and not [path for path in files if any(re.match(r"(second\.)?recheck\b", it) for it in imported(path))]

@@ -48,9 +48,7 @@ def verdict_of(part, files, args, room):
     beside = [files["beside"]] if "beside" in files else []
     for name, wanted, _ in [files["observations"], *files["navigation"], *beside]:
         expect(name, wanted, name)
-    obs, nav = unpack_all(
-        files["observations"][0], [name for name, *_ in files["navigation"]], room
-    )
+    obs, nav = unpack_all(files["observations"][0], [name for name, *_ in files["navigation"]], room)
     settings = Path(args.settings or Path(args.logs).parent / "settings", station, f"{day}.toml")
     log = f"{room}/log"
     unpacked(Path(args.logs, station, day, f"{number}.log.zst"), log)
@@ -67,9 +65,7 @@ def verdict_of(part, files, args, room):
 
 
 def main():
-    parser = argparse.ArgumentParser(
-        description="Checks a sample of a run's logs by the second checker."
-    )
+    parser = argparse.ArgumentParser(description="Checks a sample of a run's logs by the second checker.")
     parser.add_argument("database")
     parser.add_argument("logs")
     parser.add_argument("--sample", type=int, default=3)
@@ -77,9 +73,7 @@ def main():
     parser.add_argument("--settings")
     args = parser.parse_args()
     base = sqlite3.connect(f"file:{args.database}?mode=ro", uri=True)
-    parts = base.execute(
-        "SELECT station, day, part FROM files WHERE role = 'log' ORDER BY 1, 2, 3"
-    ).fetchall()
+    parts = base.execute("SELECT station, day, part FROM files WHERE role = 'log' ORDER BY 1, 2, 3").fetchall()
     wrong = 0
     for part in sorted(random.Random(args.seed).sample(parts, min(args.sample, len(parts)))):
         files = files_of(base, part)
@@ -90,10 +84,7 @@ def main():
                 said = f"{error}"
         is_same = said == files["log"][2]
         wrong += not is_same
-        print(
-            f"{part[0]} {part[1]} part {part[2]}: {said}"
-            + ("" if is_same else f", and not {files['log'][2]}")
-        )
+        print(f"{part[0]} {part[1]} part {part[2]}: {said}" + ("" if is_same else f", and not {files['log'][2]}"))
     return 1 if wrong else 0
 
 

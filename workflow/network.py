@@ -49,9 +49,7 @@ class Station:
 def date_of(value, key):
     """A date of the configuration."""
     try:
-        return (
-            value if isinstance(value, datetime.date) else datetime.date.fromisoformat(str(value))
-        )
+        return value if isinstance(value, datetime.date) else datetime.date.fromisoformat(str(value))
     except ValueError:
         raise ConfigError(f"{key}: {value!r} is no date, as 2024-01-31") from None
 
@@ -88,11 +86,7 @@ def place_of(value, key):
     """A place in metres as whole mm, or None where there is none."""
     if value is None:
         return None
-    if (
-        not isinstance(value, list)
-        or len(value) != 3
-        or not all(isinstance(at, (int, float)) for at in value)
-    ):
+    if not isinstance(value, list) or len(value) != 3 or not all(isinstance(at, (int, float)) for at in value):
         raise ConfigError(f"{key}: [x, y, z] in metres is needed, not {value!r}")
     return tuple(round(at * 1000) for at in value)
 
@@ -124,9 +118,7 @@ class Network:
     def __init__(self, config):
         if not isinstance(config.get("stations"), dict) or not config["stations"]:
             raise ConfigError("stations: a table of them is needed")
-        common = {
-            key: value for key, value in config.items() if key in Station.__dataclass_fields__
-        }
+        common = {key: value for key, value in config.items() if key in Station.__dataclass_fields__}
         names = sorted(config["stations"])
         self.stations = {name: station_of(name, config["stations"][name], common) for name in names}
         self.out = str(config.get("out", "network"))
@@ -150,9 +142,7 @@ class Network:
         try:
             return pattern.format(station=station, day=date, before=date - step, after=date + step)
         except (KeyError, IndexError, ValueError) as error:
-            raise ConfigError(
-                f"{station}: the pattern {pattern!r} can't be filled: {error}"
-            ) from None
+            raise ConfigError(f"{station}: the pattern {pattern!r} can't be filled: {error}") from None
 
     def observations(self, station, day):
         """The name of the day's observation file."""
@@ -186,21 +176,13 @@ class Network:
         """The pairs of station and day that are worked on."""
         for station in self.stations.values():
             for day in station.days:
-                if not self.leaves_absent or os.path.exists(
-                    self.observations(station.name, f"{day}")
-                ):
+                if not self.leaves_absent or os.path.exists(self.observations(station.name, f"{day}")):
                     yield station.name, f"{day}"
 
     def absent(self):
         """The pairs that are left out, since they have no observation file."""
-        wanted = [
-            (station.name, f"{day}") for station in self.stations.values() for day in station.days
-        ]
-        return (
-            [pair for pair in wanted if pair not in set(self.station_days())]
-            if self.leaves_absent
-            else []
-        )
+        wanted = [(station.name, f"{day}") for station in self.stations.values() for day in station.days]
+        return [pair for pair in wanted if pair not in set(self.station_days())] if self.leaves_absent else []
 
     def options(self, part):
         """The options of `solve` and `check` for a part. The last part has no end, so that no epoch is left out."""

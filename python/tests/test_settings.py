@@ -19,9 +19,7 @@ SEARCHES = st.builds(
     centre=st.one_of(st.just("header"), THREE),
     renew=st.one_of(st.none(), st.booleans()),
 )
-BOUNDS = st.builds(
-    Bounds, receiver=PAIR, orbit_clock=PAIR, ionosphere=PAIR, troposphere=PAIR, zenith=st.none()
-)
+BOUNDS = st.builds(Bounds, receiver=PAIR, orbit_clock=PAIR, ionosphere=PAIR, troposphere=PAIR, zenith=st.none())
 SETTINGS = st.builds(
     Settings,
     search=SEARCHES,
@@ -31,8 +29,7 @@ SETTINGS = st.builds(
     speed=st.one_of(st.none(), st.integers(0, 10**6)),
     satellites=st.dictionaries(st.sampled_from(["G01", "G32", "E05"]), PAIR),
     station=st.one_of(
-        st.none(),
-        st.builds(Station, place=st.one_of(st.just("header"), THREE), age=st.integers(1, 600)),
+        st.none(), st.builds(Station, place=st.one_of(st.just("header"), THREE), age=st.integers(1, 600))
     ),
 )
 

@@ -16,16 +16,7 @@ from pathlib import Path
 from gpscover.command import run_tool
 from gpscover.errors import Error
 from gpscover.log import UM_PER_M, epochs
-from tools.made.made_files import (
-    LABELS,
-    NOISE_MM,
-    Made,
-    arguments,
-    draws,
-    epoch_lines,
-    run,
-    solve,
-)
+from tools.made.made_files import LABELS, NOISE_MM, Made, arguments, draws, epoch_lines, run, solve
 from tools.made.orbits import LIGHT
 
 ASIDE = (1500, -2000, 1000)  # from the receiver to the station, m
@@ -50,10 +41,7 @@ class MadeWithStation(Made):
         super().__init__(seed, count)
         self.station = [axis + aside for axis, aside in zip(self.receiver, ASIDE)]
         self.seen = [
-            [
-                satellite.code_of(self.station, index, noise + CLOCK_MM)
-                for satellite, noise in zip(self.satellites, row)
-            ]
+            [satellite.code_of(self.station, index, noise + CLOCK_MM) for satellite, noise in zip(self.satellites, row)]
             for index, row in enumerate(noises(seed, self.satellites, count))
         ]
 
@@ -63,11 +51,7 @@ class MadeWithStation(Made):
         head = [text.ljust(60) + label for text, label in LABELS["obs"]]
         body = [line for k, codes in enumerate(self.seen) for line in epoch_lines(k, codes, ())]
         place = [1000 * axis for axis in self.station]
-        toml = (
-            texts["toml"]
-            .replace("[-2500, 2500]", "[-20, 20]")
-            .replace("width = 1000", "width = 10")
-        )
+        toml = texts["toml"].replace("[-2500, 2500]", "[-20, 20]").replace("width = 1000", "width = 10")
         return {
             **texts,
             "toml": f"{toml}\n[station]\nage = {AGE}\nplace = {place}\n",
@@ -78,10 +62,7 @@ class MadeWithStation(Made):
 def is_held(epoch, receiver):
     """Whether the place is in a kept box of the epoch whose clock span holds -1 ms."""
     offset = -CLOCK_MM * UM_PER_M // 1000
-    return any(
-        kept.box.contains(receiver) and kept.clock.low <= offset <= kept.clock.high
-        for kept in epoch.kept
-    )
+    return any(kept.box.contains(receiver) and kept.clock.low <= offset <= kept.clock.high for kept in epoch.kept)
 
 
 def solve_and_check(program, folder, seed, count):

@@ -4,7 +4,7 @@ from itertools import product
 
 import pytest
 
-from second import recheck
+from tools.compare.second import recheck
 from tools.compare import sample
 from tools.forged_logs import DATA
 

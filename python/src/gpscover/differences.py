@@ -74,8 +74,7 @@ def bound_lines(found: list[Difference], more: float, scale: float) -> Iterator[
     high = [size for angle, size in sizes if math.degrees(angle) >= 30]
     receiver = max(high or [size for _, size in sizes])
     zenith = max(
-        max(0.0, size - receiver) * math.sqrt(0.002001 + math.sin(angle) ** 2) / scale
-        for angle, size in sizes
+        max(0.0, size - receiver) * math.sqrt(0.002001 + math.sin(angle) ** 2) / scale for angle, size in sizes
     )
     for name, length in (("receiver", receiver), ("zenith", zenith)):
         most = math.ceil(1000 * length)

@@ -54,12 +54,7 @@ Lines = list[tuple[str, str]]  # name, and what is found
 
 SECOND = "second/recheck.py"  # from the top of the repository
 SHEET = "evidence.txt"
-FILES = {
-    "obs": "receiver.obs",
-    "nav": "receiver.nav",
-    "settings": "settings.toml",
-    "log": "receiver.log",
-}
+FILES = {"obs": "receiver.obs", "nav": "receiver.nav", "settings": "settings.toml", "log": "receiver.log"}
 STATION = {"station": "station.obs"}  # where there is one
 HEAD = "gpscover evidence 1"
 ITSELF = ("program", "second", "version")  # the lines that say who checked
@@ -205,9 +200,7 @@ def run_make(args: argparse.Namespace) -> None:
     print(f"{SHEET} sha256 {checksum(folder / SHEET)}")
 
 
-def fill(
-    folder: Path, paths: Sequence[PathLike], program: str, second: Path, options: Options
-) -> Lines:
+def fill(folder: Path, paths: Sequence[PathLike], program: str, second: Path, options: Options) -> Lines:
     """Puts the files of a bundle and its evidence into a folder. The evidence's lines."""
     for path, name in zip(paths, options.files().values()):
         shutil.copyfile(path, folder / name)
@@ -245,9 +238,7 @@ def refuse_links(folder: Path) -> None:
     never end."""
     for path in sorted(folder.iterdir()):
         if not stat.S_ISREG(path.lstat().st_mode):
-            raise Error(
-                f"{path} isn't a file of the bundle's own, but a link, a folder or a device"
-            )
+            raise Error(f"{path} isn't a file of the bundle's own, but a link, a folder or a device")
 
 
 def strangers(folder: Path, options: Options) -> Iterator[str]:
@@ -284,9 +275,7 @@ def epoch_number(text: str) -> int:
 def arguments(parser: argparse.ArgumentParser) -> None:
     """The words of the command line."""
     ways = parser.add_subparsers(required=True)
-    make = ways.add_parser(
-        "make", help="copy the files, check the log twice, and write what was found"
-    )
+    make = ways.add_parser("make", help="copy the files, check the log twice, and write what was found")
     check = ways.add_parser("check", help="find all of it anew and compare")
     for way, work in ((make, run_make), (check, run_check)):
         way.add_argument("bundle", metavar="FOLDER")
@@ -297,25 +286,13 @@ def arguments(parser: argparse.ArgumentParser) -> None:
     make.add_argument("--station", help="the observation file of the station, if there was one")
     make.add_argument("--track", action="store_true", help="the log is one of `track`")
     make.add_argument(
-        "--from",
-        dest="first",
-        type=epoch_number,
-        default=1,
-        metavar="N",
-        help="the log's first epoch (1)",
+        "--from", dest="first", type=epoch_number, default=1, metavar="N", help="the log's first epoch (1)"
     )
     make.add_argument(
-        "--to",
-        dest="last",
-        type=epoch_number,
-        default=GREATEST,
-        metavar="N",
-        help=f"its last one ({GREATEST})",
+        "--to", dest="last", type=epoch_number, default=GREATEST, metavar="N", help=f"its last one ({GREATEST})"
     )
     check.add_argument("--sha256", metavar="HEX", help=f"the checksum that {SHEET} has to have")
-    check.add_argument(
-        "--other-program", action="store_true", help="let the checkers and versions here be others"
-    )
+    check.add_argument("--other-program", action="store_true", help="let the checkers and versions here be others")
 
 
 def run(args: argparse.Namespace) -> int:

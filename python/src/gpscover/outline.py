@@ -1,6 +1,4 @@
-"""The outline of boxes as seen along an axis: the convex hull of their corners in a plane of two
-local axes.
-"""
+"""The outline of boxes as seen along an axis: the convex hull of their corners in a plane of two local axes."""
 
 from __future__ import annotations
 
@@ -19,7 +17,7 @@ def half_hull(points: list[Flat]) -> list[Flat]:
     for x, y in points:
         # the last corner goes where the way over it to this point doesn't turn left
         while len(hull) > 1:
-            (a, b), (c, d) = hull[-2:]
+            (a, b), (c, d) = hull[-2], hull[-1]
             if (c - a) * (y - b) > (d - b) * (x - a):
                 break
             hull.pop()
@@ -41,17 +39,13 @@ def ends_along(points: Iterable[Corner], axis: int) -> set[Corner]:
     for point in points:
         line = point[:axis] + point[axis + 1 :]
         low, high = lines.get(line, (point, point))
-        lines[line] = (
-            point if point[axis] < low[axis] else low,
-            point if point[axis] > high[axis] else high,
-        )
+        lines[line] = (point if point[axis] < low[axis] else low, point if point[axis] > high[axis] else high)
     return {point for both in lines.values() for point in both}
 
 
 def outer_corners(boxes: Iterable[Box]) -> set[Corner]:
-    """Corners of the boxes, among which are those of their convex hull: of those on a line along an
-    axis only two are.
-    """
+    """Corners of the boxes, among which are those of their convex hull: of those on a line along an axis only two
+    are."""
     lines: dict[tuple[int, int], tuple[int, int]] = {}
     for a, b, c, d, e, f in boxes:
         for line in ((b, c), (b, f), (e, c), (e, f)):
@@ -61,9 +55,7 @@ def outer_corners(boxes: Iterable[Box]) -> set[Corner]:
     return ends_along(ends_along(points, 1), 2)
 
 
-def outline_of(
-    points: Iterable[Corner], origin: Vector, right: Vector, upward: Vector
-) -> list[Flat]:
+def outline_of(points: Iterable[Corner], origin: Vector, right: Vector, upward: Vector) -> list[Flat]:
     """The convex hull of points in um, in the plane of two unit vectors, in m from an origin."""
     p, q, r = (round(value * UM_PER_M) for value in origin)
     (a, b, c), (d, e, f) = ([part / UM_PER_M for part in vector] for vector in (right, upward))

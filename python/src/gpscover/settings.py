@@ -189,9 +189,7 @@ def settings_of(tree: dict[str, Any]) -> Settings:
     unknown = set(tree) - known
     if unknown:
         raise ValueError(f"unknown table {sorted(unknown)[0]}")
-    tables = {
-        name: {key: frozen(value) for key, value in table.items()} for name, table in tree.items()
-    }
+    tables = {name: {key: frozen(value) for key, value in table.items()} for name, table in tree.items()}
     galileo, station = tables.get("galileo"), tables.get("station")
     return Settings(
         Search(**tables["search"]),

@@ -50,10 +50,7 @@ def clock_span(row: Row, box: Box) -> Interval:
     for (low, high), box_low, box_high in zip(row.place, box.low, box.high):
         near += max(0, low - box_high, box_low - high) ** 2
         far += max(high - box_low, box_high - low) ** 2
-    return Interval(
-        row.range.low - math.isqrt(far) - row.error.high,
-        row.range.high - math.isqrt(near) - row.error.low,
-    )
+    return Interval(row.range.low - math.isqrt(far) - row.error.high, row.range.high - math.isqrt(near) - row.error.low)
 
 
 def possible_in(rows: list[Row], box: Box, outliers: int) -> set[int]:
@@ -88,16 +85,9 @@ def log_line(epoch: Epoch, place: str = "") -> str:
     if epoch.few:
         return f"{head} few"
     if not epoch.kept:
-        return (
-            f"{head} empty: more than {epoch.outliers} satellites broke their bounds, or the"
-            " receiver was outside"
-        )
+        return f"{head} empty: more than {epoch.outliers} satellites broke their bounds, or the" " receiver was outside"
     broken = surely_broken(epoch)
-    return (
-        f"{head} broke their bounds{place}: {' '.join(broken)}"
-        if broken
-        else f"{head} none is shown to have"
-    )
+    return f"{head} broke their bounds{place}: {' '.join(broken)}" if broken else f"{head} none is shown to have"
 
 
 def with_no_outliers(settings: str) -> str:
@@ -130,12 +120,7 @@ class Runs:
     """Runs the program on the same files with other settings."""
 
     def __init__(
-        self,
-        program: PathLike,
-        obs: PathLike,
-        nav: PathLike,
-        folder: PathLike,
-        station: PathLike | None = None,
+        self, program: PathLike, obs: PathLike, nav: PathLike, folder: PathLike, station: PathLike | None = None
     ) -> None:
         self.program, self.obs, self.nav = str(program), str(obs), str(nav)
         self.folder = Path(folder)
@@ -159,9 +144,7 @@ def opened_lines(runs: Runs, settings: str) -> Iterator[str]:
     given = runs.solve("given", closed)
     empty = {epoch.index: epoch for epoch in given if not epoch.few and not epoch.kept}
     satellites = sorted({row.satellite for epoch in empty.values() for row in epoch.rows})
-    opened: dict[str, str | None] = {
-        satellite: with_opened(closed, satellite) for satellite in satellites
-    }
+    opened: dict[str, str | None] = {satellite: with_opened(closed, satellite) for satellite in satellites}
     if any(satellite[0] == "E" for satellite in satellites):
         opened["offset"] = with_open_offset(closed)
     helps: dict[int, list[str]] = {index: [] for index in empty}
@@ -170,10 +153,7 @@ def opened_lines(runs: Runs, settings: str) -> Iterator[str]:
             if epoch.index in helps and epoch.kept:
                 helps[epoch.index].append(name)
     for index, epoch in empty.items():
-        names = (
-            " ".join(helps[index])
-            or "none: more than one satellite broke its bounds, or the receiver was outside"
-        )
+        names = " ".join(helps[index]) or "none: more than one satellite broke its bounds, or the receiver was outside"
         yield f"epoch {index} {calendar(epoch.ps)} empty; a region is left when opening {names}"
     end = f"; a fault is one{AT_EITHER}" if runs.options and empty else ""
     yield f"epochs {len(given)}, of which {len(empty)} are empty at outliers = 0{end}"
@@ -192,9 +172,7 @@ def run_log(args: argparse.Namespace) -> None:
     """Goes through a log."""
     for epoch in epochs(args.log):
         if epoch.outliers == 0:
-            raise Error(
-                f"{args.log} was solved with outliers = 0, where no satellite may break its bounds"
-            )
+            raise Error(f"{args.log} was solved with outliers = 0, where no satellite may break its bounds")
         print(log_line(epoch, AT_EITHER if args.station else ""))
 
 
