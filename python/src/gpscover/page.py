@@ -42,7 +42,7 @@ from gpscover.errors import Error, LogError
 from gpscover.geodesy import Vector, azimuth, elevation
 from gpscover.kml import ground_ring
 from gpscover.log import UM_PER_M, Box, Epoch, PathLike, Rules, epochs, rules_of
-from gpscover.outline import Flat, outer_corners, outline_of
+from gpscover.outline import Flat, offsets_of, outer_corners, outline_of
 from gpscover.region import Region, hull_of, region_or_none
 from gpscover.summary import COLUMNS, Totals, csv_line, mark_of, text_cells
 
@@ -178,8 +178,8 @@ def rounded(points: Iterable[Flat], digits: int) -> list[list[float]]:
 
 def outlines_of(epoch: Epoch, region: Region) -> list[list[Flat]]:
     """The outlines of all kept boxes in m: east and north, east and up, north and up."""
-    corners, (east, north, up) = outer_corners(epoch.boxes), region.axes
-    return [outline_of(corners, region.origin, *pair) for pair in ((east, north), (east, up), (north, up))]
+    corners, (east, north, up) = offsets_of(outer_corners(epoch.boxes), region.origin), region.axes
+    return [outline_of(corners, *pair) for pair in ((east, north), (east, up), (north, up))]
 
 
 def detail(epoch: Epoch, region: Region | None, mark: str) -> str:
