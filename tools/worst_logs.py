@@ -9,13 +9,13 @@ come first (--splits). Then, until the log has its size (64 MiB; 512 is the most
   renewals  nothing but renewals, whose rows nobody uses
   cuts      renewals, each behind a cut of one box in each group of 512, so that each group has to be looked through
 
-Prints a table: lines, seconds, and seconds for 512 MiB. The status is 1 where `judge` doesn't say yes.
+Prints a table: lines, seconds of processor time, and those for 512 MiB. The status is 1 where `judge` doesn't say yes.
 """
 import argparse
+import os
 import subprocess
 import sys
 import tempfile
-import time
 from pathlib import Path
 
 GROUP = 512
@@ -64,10 +64,12 @@ def end(splits):
 
 
 def measure(program, path):
-    """How long `judge` takes, and whether it says yes."""
-    begun = time.monotonic()
+    """How much processor time `judge` takes, and whether it says yes."""
+    before = os.times()
     said = subprocess.run([program, "judge", path], capture_output=True, text=True, check=False).stdout
-    return time.monotonic() - begun, said.startswith("yes ")
+    after = os.times()
+    seconds = after.children_user + after.children_system - before.children_user - before.children_system
+    return seconds, said.startswith("yes ")
 
 
 def main():
