@@ -57,18 +57,19 @@ rounded_narrow number unit a f =
     (omega (arith, ints, add_mul a.lo (pos 2) d, f.floor.gt, f.ceiling.lt)) in
     record { width = omega (arith, ints) }
 
-narrow_codes : (signal : Signal) (seen : SatObs) (codes : Codes) → HaveValue signal seen codes
+pub narrow_codes : (signal : Signal) (seen : SatObs) (codes : Codes) → HaveValue signal seen codes
     → AreNarrow codes
 narrow_codes (Single code) seen codes v = subst (AreNarrowWith codes.first) (sym v.3) (rounded_narrow v.0 Length codes.first v.2)
 narrow_codes (Dual code other) seen codes v = subst (AreNarrowWith codes.first) (sym v.1.3) (rounded_narrow v.0.0 Length codes.first v.0.2, rounded_narrow v.1.0 Length v.1.1 v.1.4)
 
 -- ---- times
 
-near_time : (tag time age : ℤ) (max : ℕ) → age ≡ pos (unsigned_abs (tag -ℤ time))
-    → age ≤ℤ pos (max * 1000000000000) → max ≤ 14400
-    → (more : ℤ) → pos 0 ≤ℤ more → more ≤ℤ pos 1
-    → IsWithin 14401000000000000 (tag -ℤ (time +ℤ more))
-near_time tag time age max e fresh short more low high = record { low = omega (arith, ints, e); high = omega (arith, ints, e) }
+-- ... a time that is near that of the epoch
+near_time : (tag other time age : ℤ) (max apart : ℕ) → age ≡ pos (unsigned_abs (tag -ℤ time))
+    → age ≤ℤ pos (max * 1000000000000) → unsigned_abs (tag -ℤ other) ≤ apart * 1000000000000
+    → max + apart ≤ 14400 → (more : ℤ) → pos 0 ≤ℤ more → more ≤ℤ pos 1
+    → IsWithin 14401000000000000 (other -ℤ (time +ℤ more))
+near_time tag other time age max apart e fresh near short more low high = record { low = omega (arith, ints, e); high = omega (arith, ints, e) }
 
 plus_none : (s : ℤ) → s +ℤ pos 0 ≡ s
 plus_none s = omega (arith, ints)
@@ -79,19 +80,24 @@ plus_apart s l h = omega (arith, ints)
 plus_some : (l h : ℤ) → l ≤ℤ h → pos 0 ≤ℤ (h -ℤ l)
 plus_some l h o = omega (arith, ints)
 
-near_elements : (r : NavRecord) (el : Elements) (tag age : ℤ) (max : ℕ) → IsAge r tag age
-    → age ≤ℤ pos (max * 10 ^ 12) → max ≤ 14400 → AreElements r el → IsNearEpoch el tag
-near_elements r el tag age max a fresh short f =
+near_elements : (r : NavRecord) (el : Elements) (tag other age : ℤ) (max apart : ℕ) → IsAge r tag age
+    → age ≤ℤ pos (max * 10 ^ 12) → unsigned_abs (tag -ℤ other) ≤ apart * 10 ^ 12 → max + apart ≤ 14400
+    → AreElements r el → IsNearEpoch el other
+near_elements r el tag other age max apart a fresh near short f =
     let here : IsEphemerisTime r (el.week_start +ℤ el.toe_week.lo) = record { inside = a.1.inside; toe = el.toe_week.lo; start = el.week_start; toe_is = f.toe_week.floor; start_is = f.week_start; time_is = refl } in
     let same = time_only r a.0 (el.week_start +ℤ el.toe_week.lo) a.1 here in
     let age_is : age ≡ pos (unsigned_abs (tag -ℤ (el.week_start +ℤ el.toe_week.lo))) = subst (λ (t : ℤ). age ≡ pos (unsigned_abs (tag -ℤ t))) same a.2 in
     let old : age ≤ℤ pos (max * 1000000000000) = fresh in
+    let beside : unsigned_abs (tag -ℤ other) ≤ apart * 1000000000000 = near in
     let narrow = rounded_narrow (field_of r.fields 11) Time el.toe_week f.toe_week in
     record {
-      low = subst (λ (t : ℤ). IsWithin 14401000000000000 (tag -ℤ t)) (plus_none (el.week_start +ℤ el.toe_week.lo)) (near_time tag (el.week_start +ℤ el.toe_week.lo) age max age_is old short (pos 0) (omega (arith, ints)) (omega (arith, ints)));
-      high = subst (λ (t : ℤ). IsWithin 14401000000000000 (tag -ℤ t)) (plus_apart el.week_start el.toe_week.lo el.toe_week.hi)
-          (near_time tag (el.week_start +ℤ el.toe_week.lo) age max age_is old short (el.toe_week.hi -ℤ el.toe_week.lo) (plus_some el.toe_week.lo el.toe_week.hi el.toe_week.ordered) narrow.width);
+      low = subst (λ (t : ℤ). IsWithin 14401000000000000 (other -ℤ t)) (plus_none (el.week_start +ℤ el.toe_week.lo)) (near_time tag other (el.week_start +ℤ el.toe_week.lo) age max apart age_is old beside short (pos 0) (omega (arith, ints)) (omega (arith, ints)));
+      high = subst (λ (t : ℤ). IsWithin 14401000000000000 (other -ℤ t)) (plus_apart el.week_start el.toe_week.lo el.toe_week.hi)
+          (near_time tag other (el.week_start +ℤ el.toe_week.lo) age max apart age_is old beside short (el.toe_week.hi -ℤ el.toe_week.lo) (plus_some el.toe_week.lo el.toe_week.hi el.toe_week.ordered) narrow.width);
     }
+
+no_time : (tag : ℤ) → unsigned_abs (tag -ℤ tag) ≤ 0 * 10 ^ 12
+no_time tag = omega (arith, ints)
 
 -- ---- what a usable satellite is known by
 
@@ -102,11 +108,16 @@ module _ (a : Sighting) (codes : Codes) (el : Elements) (known : IsKnownBy a cod
   pub known_narrow : AreNarrow codes
   known_narrow = subst AreNarrow known.codes_are (narrow_codes a.signal a.seen known.usable.measured.codes known.usable.measured.values)
 
-  pub known_near : a.max_age ≤ 14400 → IsNearEpoch el a.tag
-  known_near short =
+  -- at a time that is near that of the epoch too
+  pub known_near_at : (other : ℤ) (apart : ℕ) → unsigned_abs (a.tag -ℤ other) ≤ apart * 10 ^ 12
+      → a.max_age + apart ≤ 14400 → IsNearEpoch el other
+  known_near_at other apart near short =
       let fresh = known.usable.used.meets.fresh in
-      let near = near_elements known.usable.r known.usable.el a.tag known.usable.age a.max_age fresh.age_is fresh.fresh short known.usable.elements in
-      subst (λ (e : Elements). IsNearEpoch e a.tag) known.el_is near
+      let here = near_elements known.usable.r known.usable.el a.tag other known.usable.age a.max_age apart fresh.age_is fresh.fresh near short known.usable.elements in
+      subst (λ (e : Elements). IsNearEpoch e other) known.el_is here
+
+  pub known_near : a.max_age ≤ 14400 → IsNearEpoch el a.tag
+  known_near short = known_near_at a.tag 0 (no_time a.tag) (omega (arith, short))
 
   known_observed : (u : IsUsable a)
       → observed a u ≡ record { system = a.system; tag = a.tag; codes = codes; el = el }

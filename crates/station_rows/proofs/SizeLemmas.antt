@@ -1,13 +1,13 @@
 -- The pseudorange of a single difference is within 55,600 km: by the satellite's clock offset, the
 -- range to its place, and what the two pseudoranges differ by.
-use Rattle.std.proofs.Common.{◌≡◌, ℕ, ◌+◌, ◌-◌, ◌*◌, ◌^◌, ◌≤◌, arith, lit≤}
+use Rattle.std.proofs.Common.{◌≡◌, ℕ, ◌+◌, ◌-◌, ◌*◌, ◌^◌, ◌≤◌, arith, lit≤, subst}
 use Rattle.std.specs.Prelude.{ℤ, pos, neg_ℤ, ◌+ℤ◌, ◌-ℤ◌, ◌*ℤ◌, ◌≤ℤ◌, Bool, true, false, Option, None, Some, unsigned_abs, nat_abs}
 use Rattle.std.proofs.lemmas.Int.{ints}
 use Rattle.gnss_model.specs.ChainValues.{Observed, ChainValue}
 use Rattle.gnss_model.specs.ClockChain.{ClockChainOf, IsAdvanced, less_delay}
 use Rattle.gnss_model.specs.EarthModel.{rate_scale, relativity}
 use Rattle.gnss_model.specs.OrbitChain.{OrbitChain}
-use Rattle.gnss_model.specs.Pseudorange.{IsSent, IsCorrected, IsRangeWith}
+use Rattle.gnss_model.specs.Pseudorange.{IsSent, IsCorrected, IsRangeOf, IsRangeWith}
 use Rattle.gnss_model.specs.RecordBounds.{IsField, IsValue, eccentricity_bound, least_root_a, offset_bound, drift_bound, ageing_bound, delay_bound}
 use Rattle.gnss_model.specs.Systems.{relativity_of}
 use Rattle.gnss_model.specs.Turn.{Turn}
@@ -31,8 +31,10 @@ use Rattle.broadcast_orbit.proofs.Distances.{AreRadii, least_radius, radius_slac
 use Rattle.broadcast_orbit.proofs.PairLemmas.{square_of_sum, square_of_difference, square_natural, product_between}
 use Rattle.broadcast_orbit.proofs.TurnKeeps.{turn_keeps, IsTurnBound}
 use Rattle.sat_rows.specs.Chains.{Chain}
+use Rattle.station_epochs.specs.Grounds.{IsNearGround, station_reach}
 use Rattle.station_rows.specs.Differences.{CommonView, IsDifferenceOf}
-use Rattle.station_rows.specs.Nearby.{HasNearRecord, AreNearby, ArePlausibleCodes, IsNearGround, medium_root_a, clock_time_reach, pseudoranges_apart, station_reach, difference_reach}
+use Rattle.station_rows.specs.Nearby.{HasNearRecord, AreNearby, ArePlausibleCodes, medium_root_a, clock_time_reach, pseudoranges_apart, difference_reach}
+use Rattle.station_rows.proofs.NearbyLemmas.{near_ranges}
 use Rattle.usable_sats.specs.Usability.{ArePlausible, ArePlausibleWith}
 
 -- ---- the pseudorange
@@ -125,8 +127,12 @@ clock_small system el single n tsv dt t root since k =
     let relative = relative_within (relativity * eccentricity_bound * medium_root_a * (unit + 8)) (((pos (relativity_of system) *ℤ f.e) *ℤ f.root_a) *ℤ k.sine) k.relative (lit≤ tt) all k.relative_is in
     sum_within (offset_reach + delay_bound) (5 * 10 ^ 9 + 1) (103 * 10 ^ 12) k.base k.relative dt (lit≤ tt) k.dt_is base relative
 
+-- by how much a corrected pseudorange differs from the pseudorange, in um
+abbrev corrected_apart : ℕ
+corrected_apart = 31 * 10 ^ 11 - 1
+
 corrected_near : (pr dt v : ℤ) → IsWithin (103 * 10 ^ 12) dt → IsCorrected pr dt v
-    → IsWithin (31 * 10 ^ 11) (v -ℤ pr)
+    → IsWithin corrected_apart (v -ℤ pr)
 corrected_near pr dt v w n = record { low = omega (arith, ints, w.low, w.high, n.below, n.above); high = omega (arith, ints, w.low, w.high, n.below, n.above) }
 
 -- ---- the range
@@ -231,14 +237,14 @@ range_small p x y z s g =
 
 corrected_by : (seen : Observed) (p : Pos) (x y z corrected : ℤ) (range : ℕ)
     → ArePlausible seen.system seen.codes → HasNearRecord seen
-    → (v : ChainValue seen p x y z corrected range) → IsWithin (31 * 10 ^ 11) (corrected -ℤ v.pr)
+    → (v : ChainValue seen p x y z corrected range) → IsWithin corrected_apart (corrected -ℤ v.pr)
 corrected_by seen p x y z corrected range plausible near v =
     let pr = range_within seen.system seen.codes.first seen.codes.second v.pr plausible v.pr_is in
     corrected_near v.pr v.dt corrected
     (clock_small seen.system seen.el _ v.n v.tsv v.dt v.t near.orbit (sent_since seen.tag seen.el.toc v.pr v.tsv pr v.tsv_is near.clock_time) v.clock) v.corrected_is
 
-small_by : (c pc q pq e d : ℤ) (r : ℕ) → IsWithin (31 * 10 ^ 11) (c -ℤ pc)
-    → IsWithin (31 * 10 ^ 11) (q -ℤ pq) → IsWithin pseudoranges_apart (pc -ℤ pq) → r ≤ range_most
+small_by : (c pc q pq e d : ℤ) (r : ℕ) → IsWithin corrected_apart (c -ℤ pc)
+    → IsWithin corrected_apart (q -ℤ pq) → IsWithin (pseudoranges_apart + 2) (pc -ℤ pq) → r ≤ range_most
     → e ≡ q -ℤ pos r → d ≡ c -ℤ e → IsWithin difference_reach d
 small_by c pc q pq e d r f g h k i j = record { low = omega (arith, ints, f.low, g.high, h.low, k, i, j); high = omega (arith, ints, f.high, g.low, h.high, k, i, j) }
 
@@ -253,4 +259,5 @@ difference_small view p c plausible near ground d =
     small_by d.corrected d.receiver.pr s.corrected v.pr d.residual c.corrected s.range
     (corrected_by view.receiver p c.x c.y c.z d.corrected c.range plausible.receiver near.receiver d.receiver)
     (corrected_by view.station view.place s.x s.y s.z s.corrected s.range plausible.station near.station v)
-    (near.pseudoranges d.receiver.pr v.pr d.receiver.pr_is v.pr_is) range s.residual_is d.difference_is
+    (near_ranges view.receiver.system view.receiver.codes.first view.receiver.codes.second view.station.codes.first view.station.codes.second d.receiver.pr v.pr near.codes d.receiver.pr_is
+    (subst (λ (system : System). IsRangeOf system view.station.codes v.pr) near.system v.pr_is)) range s.residual_is d.difference_is

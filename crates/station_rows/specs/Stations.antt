@@ -1,11 +1,11 @@
--- What a source of rows means that has a station: which epoch of the station goes with one of the
--- receiver, which satellites both observed, and what is allowed of these.
-use Rattle.std.specs.Prelude.{ℕ, ◌*◌, ◌^◌, ◌≤◌, ◌≡◌, ◌⊎◌, ℤ, ◌-ℤ◌, List, Option, None, Some}
-use Rattle.std.specs.Prelude.{slice_get, unsigned_abs}
-use Rattle.error_bounds.specs.Reading.{bound_for, value_of_settings}
+-- What a source of rows means that has a station: which satellites both observed, and what is
+-- allowed of these.
+use Rattle.std.specs.Prelude.{◌≡◌, ◌⊎◌, ℤ, List, [], ◌∷◌, Option, None, Some, if◌then◌else◌}
+use Rattle.error_bounds.specs.Reading.{bound_for, galileo_use_of, is_sat, value_of_settings}
 use Rattle.error_bounds.specs.declared.settings.Settings.{Settings}
 use Rattle.gnss_model.specs.declared.delays.Delays.{Delays}
 use Rattle.gnss_model.specs.declared.satellites.GalileoUse.{GalileoUse}
+use Rattle.gnss_model.specs.declared.satellites.Sat.{Sat}
 use Rattle.gnss_model.specs.declared.satellites.Skip.{Skip}
 use Rattle.grid_model.specs.Boxes.{GridBox}
 use Rattle.grid_model.specs.declared.boxes.Pos.{Pos}
@@ -14,34 +14,19 @@ use Rattle.rinex_obs.specs.declared.obs.ObsEpoch.{ObsEpoch}
 use Rattle.rinex_obs.specs.declared.obs.SatObs.{SatObs}
 use Rattle.sat_rows.specs.Chains.{Chain, observed}
 use Rattle.sat_rows.specs.Meanings.{Meaning}
+use Rattle.sat_rows.specs.Sources.{both_meaning}
+use Rattle.station_epochs.specs.Stations.{Station, IsStationEpoch}
 use Rattle.station_rows.specs.Differences.{CommonView, AreDifferences}
 use Rattle.station_rows.specs.Nearby.{AreNearby}
 use Rattle.usable_sats.specs.Usability.{Sighting, IsMeasured, IsUsable, IsHigh, IsJudged}
 use Rattle.usable_sats.specs.Usability.{sighting_by}
 
--- where it stands, how far in s its epochs may be from those of the receiver, and its epochs
-pub record Station : Type 0 where
-  pub place : Pos
-  pub age : ℕ
-  pub epochs : List ObsEpoch
-
--- ---- the epoch of the station
-
--- the epoch at place i of its file is so many ps from a time, and no more than allowed
-pub record IsInTime (station : Station) (tag : ℤ) (i : ℕ) (e : ObsEpoch) (apart : ℕ) : Type 0 where
-  pub at : slice_get station.epochs i ≡ Some e
-  pub apart_is : apart ≡ unsigned_abs (tag -ℤ e.tag)
-  pub near : apart ≤ station.age * 10 ^ 12
-
--- of these it is the nearest, the later in the file of two
-pub record IsStationEpoch (station : Station) (tag : ℤ) (e : ObsEpoch) : Type 0 where
-  pub i : ℕ
-  pub apart : ℕ
-  pub in_time : IsInTime station tag i e apart
-  pub least : (j : ℕ) (f : ObsEpoch) (other : ℕ) → IsInTime station tag j f other → apart ≤ other
-  pub last : (j : ℕ) (f : ObsEpoch) → IsInTime station tag j f apart → j ≤ i
-
 -- ---- the satellite
+
+-- the first satellite of a name
+abbrev pub observed_in : Sat → List SatObs → Option SatObs
+observed_in sat [] = None
+observed_in sat (seen ∷ sats) = if is_sat seen.sat sat then Some seen else observed_in sat sats
 
 -- what the station observed at a time, judged by the same records and wanted codes
 abbrev pub sighted_at : Sighting → ℤ → SatObs → Sighting
@@ -58,10 +43,8 @@ sighted_at a tag seen = record {
 pub record IsSeenByStation (station : Station) (a : Sighting) : Type 0 where
   pub epoch : ObsEpoch
   pub epoch_is : IsStationEpoch station a.tag epoch
-  pub k : ℕ
   pub seen : SatObs
-  pub among : slice_get epoch.sats.items k ≡ Some seen
-  pub same : seen.sat ≡ a.seen.sat
+  pub seen_is : observed_in a.seen.sat epoch.sats.items ≡ Some seen
   pub measured : IsMeasured (sighted_at a epoch.tag seen)
 
 -- both observations, by the record that the receiver uses
@@ -129,3 +112,9 @@ station_meaning galileo records settings station = record {
   declared = λ sat. bound_for sat (value_of_settings settings);
   delays = settings.delays;
 }
+
+-- ... and with a station or without
+abbrev pub rows_meaning : List NavRecord → Settings → Option Station → Meaning
+rows_meaning records settings None = both_meaning records settings
+rows_meaning records settings (Some station) =
+    station_meaning (galileo_use_of (value_of_settings settings).galileo) records settings station

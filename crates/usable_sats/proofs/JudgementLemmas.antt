@@ -48,7 +48,7 @@ one_code o v w f g =
     let same = same_Some f.0 g.0 (sym f.1 ∙ g.1) in
     one_rounded g.0 Length v w (subst (λ (q : Decimal). IsRounded v q Length) same f.2) g.2
 
-value_one : (signal : Signal) (seen : SatObs) (c d : Codes) → HaveValue signal seen c
+pub value_one : (signal : Signal) (seen : SatObs) (c d : Codes) → HaveValue signal seen c
     → HaveValue signal seen d → c ≡ d
 value_one (Single code) seen c d f g = same_codes c d (one_code seen.first c.first d.first (f.0, f.1, f.2) (g.0, g.1, g.2)) (f.3 ∙ sym g.3)
 value_one (Dual code other) seen c d f g =

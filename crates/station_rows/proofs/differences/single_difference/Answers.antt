@@ -5,7 +5,8 @@ use Rattle.grid_model.proofs.ProductLemmas.{larger}
 use Rattle.sat_model.specs.Relaxed.{ends}
 use Rattle.station_rows.specs.Bases.{residual_amount}
 use Rattle.station_rows.specs.Differences.{residual_of}
-use Rattle.station_rows.proofs.DifferenceLemmas.{moved_bound, differ_within, small_ends}
+use Rattle.station_rows.specs.Laws.{moved_bound}
+use Rattle.station_rows.proofs.DifferenceLemmas.{differ_within, small_ends}
 use Rattle.station_rows.proofs.differences.single_difference.Goals as goal
 
 pub minus-difference-requires-clause-low_size : goal.minus-difference-requires-clause-low_size

@@ -8,7 +8,8 @@ use Rattle.sat_rows.specs.ChainLemmas.{values_exist}
 use Rattle.sat_rows.specs.Chains.{Chain, AreValues}
 use Rattle.station_rows.specs.Differences.{less_residual, residual_of, with_corrected}
 use Rattle.station_rows.specs.Observations.{observed_by, view_of}
-use Rattle.station_rows.proofs.DifferenceLemmas.{moved_bound, plain, plain_bound}
+use Rattle.station_rows.specs.Laws.{moved_bound}
+use Rattle.station_rows.proofs.DifferenceLemmas.{plain, plain_bound}
 use Rattle.station_rows.proofs.SizeLemmas.{difference_small}
 use Rattle.station_rows.proofs.rows.base_of_both.Goals as goal
 

@@ -1,4 +1,4 @@
-use Rattle.station_rows.proofs.StationLemmas.{station_sound}
+use Rattle.station_rows.specs.Laws.{station_sound}
 use Rattle.station_rows.proofs.stations.station_meaning_is_sound.Goals as goal
 
 pub returns : goal.returns

@@ -2,23 +2,27 @@
 use Rattle.std.proofs.Common.{◌≡◌, refl, sym, ap, ◌∙◌, inl, inr, List, Some, None}
 use Rattle.std.specs.Prelude.{ℤ, pos, ◌-ℤ◌, Option, true}
 use Rattle.std.proofs.lemmas.Option.{none-some, same_Some}
-use Rattle.error_bounds.specs.Reading.{bound_for, value_of_settings}
+use Rattle.error_bounds.specs.Reading.{bound_for, galileo_use_of, value_of_settings}
 use Rattle.error_bounds.specs.declared.settings.Settings.{Settings}
 use Rattle.gnss_model.specs.declared.delays.Delays.{Delays}
+use Rattle.gnss_model.specs.declared.delays.Layer.{Layer}
+use Rattle.gnss_model.specs.declared.delays.Layer.TheVariants.{Troposphere, Ionosphere}
 use Rattle.gnss_model.specs.declared.satellites.GalileoUse.{GalileoUse}
 use Rattle.gnss_model.specs.declared.satellites.Skip.{Skip}
 use Rattle.grid_model.specs.Boxes.{GridBox, box_holds}
 use Rattle.grid_model.specs.SearchBoxes.{IsSearchBox}
 use Rattle.grid_model.specs.declared.boxes.Pos.{Pos}
+use Rattle.grid_model.specs.declared.spans.Span.{Span}
 use Rattle.rinex_nav.specs.declared.record.NavRecord.{NavRecord}
 use Rattle.sat_rows.specs.ChainLemmas.{chain_exists, values_exist}
-use Rattle.sat_rows.specs.Chains.{Chain}
+use Rattle.sat_rows.specs.Chains.{Chain, IsDelay, IsBound}
+use Rattle.sat_rows.specs.Laws.{both_sound}
 use Rattle.sat_rows.specs.Meanings.{IsSound}
 use Rattle.usable_sats.specs.Usability.{Sighting, IsUsable, IsHigh, IsJudged, sighting_by}
 use Rattle.usable_sats.proofs.JudgementLemmas.{judgement_one}
-use Rattle.station_rows.specs.Differences.{CommonView, AreDifferences, less_residual}
-use Rattle.station_rows.specs.Stations.{Station, common_view, IsJudgedByBoth, station_meaning}
-use Rattle.station_rows.proofs.DifferenceLemmas.{moved_bound}
+use Rattle.station_epochs.specs.Stations.{Station}
+use Rattle.station_rows.specs.Differences.{CommonView, AreDifferences, less_residual, with_corrected}
+use Rattle.station_rows.specs.Stations.{common_view, IsJudgedByBoth, station_meaning, rows_meaning}
 
 -- ---- one judgement
 
@@ -54,6 +58,24 @@ module _ (delays : Delays) (root : GridBox) (station : Station) (a : Sighting) w
   judged_one (Some s) None f g = absurd (not_both s g f)
   judged_one (Some s) (Some t) f g = ap (λ (k : Skip). Some k) (one_reason s t f g)
 
+-- ---- the ends of the error don't speak of the pseudorange
+
+moved_delay : (layer : Layer) (delay : Option Span) (p : Pos) (c : Chain) (v : ℤ) (d : ℤ × ℤ)
+    → IsDelay layer delay p c d → IsDelay layer delay p (with_corrected c v) d
+moved_delay layer None p c v d h = h
+moved_delay layer (Some s) p c v d h = record { factor = h.factor; factor_is = h.factor_is; low = h.low; high = h.high }
+
+pub moved_bound : (delays : Delays) (declared : ℤ × ℤ) (p : Pos) (c : Chain) (v : ℤ)
+    → IsBound delays declared p c → IsBound delays declared p (with_corrected c v)
+moved_bound delays declared p c v b = record {
+  zenith = b.zenith;
+  zenith_is = moved_delay Troposphere delays.zenith p c v b.zenith b.zenith_is;
+  vertical = b.vertical;
+  vertical_is = moved_delay Ionosphere delays.vertical p c v b.vertical b.vertical_is;
+  lo_is = b.lo_is;
+  hi_is = b.hi_is;
+}
+
 -- ---- something is allowed
 
 pub differences_exist : (view : CommonView) (p : Pos) (delays : Delays) (declared : ℤ × ℤ) (root : GridBox)
@@ -88,3 +110,9 @@ station_sound galileo records settings station = record {
   bound_is = λ tag seen p c d. d.are.1;
   delays_within = settings.delays_within;
 }
+
+pub rows_sound : (records : List NavRecord) (settings : Settings) (station : Option Station)
+    → IsSound (rows_meaning records settings station)
+rows_sound records settings None = both_sound records settings
+rows_sound records settings (Some station) =
+    station_sound (galileo_use_of (value_of_settings settings).galileo) records settings station

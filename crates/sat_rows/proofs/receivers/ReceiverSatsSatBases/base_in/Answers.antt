@@ -13,7 +13,7 @@ use Rattle.sat_rows.specs.Chains.{Chain, AreValues}
 use Rattle.usable_sats.specs.Measured.{codes_of}
 use Rattle.usable_sats.specs.Usability.{sighting_by, use_of}
 use Rattle.sat_rows.proofs.RowLemmas.{known_plausible, known_narrow, known_near, known_comes, error_small}
-use Rattle.sat_rows.proofs.epochs.base_in.Goals as goal
+use Rattle.sat_rows.proofs.receivers.ReceiverSatsSatBases.base_in.Goals as goal
 
 pub base_of-requires-clause-plausible : goal.base_of-requires-clause-plausible
 base_of-requires-clause-plausible c = let y = ap (λ (u : System × Signal). u.0) c.use_of-system.ensures in rw y (known_plausible _ _ _ c.in-Usable.ensures.0)
@@ -24,17 +24,17 @@ base_of-requires-clause-narrow c = known_narrow _ _ _ c.in-Usable.ensures.0
 pub base_of-requires-clause-near : goal.base_of-requires-clause-near
 base_of-requires-clause-near c =
     let f : FitsSigned w128 c.args.epoch.now.tag = search rules in
-    let near = known_near (sighting_by c.args.galileo.now c.args.nav.now c.args.settings.now c.args.epoch.now.tag c.args.seen.now) (codes_of c.in-Usable.codes) c.in-Usable.elements c.in-Usable.ensures.0 c.args.settings.now.short_age in
+    let near = known_near (sighting_by c.args.self.now.galileo c.args.self.now.nav.now c.args.self.now.settings.now c.args.epoch.now.tag c.args.seen.now) (codes_of c.in-Usable.codes) c.in-Usable.elements c.in-Usable.ensures.0 c.args.self.now.settings.now.short_age in
     simp to_z-of_z near
 
 pub base_of-requires-clause-small : goal.base_of-requires-clause-small
-base_of-requires-clause-small c = error_small c.args.settings.now c.args.seen.now.sat c.bound_of-declared.result c.bound_of-declared.ensures
+base_of-requires-clause-small c = error_small c.args.self.now.settings.now c.args.seen.now.sat c.bound_of-declared.result c.bound_of-declared.ensures
 
 pub returns-in-Usable-clause-base : goal.returns-in-Usable-clause-base
 returns-in-Usable-clause-base c =
     let f : FitsSigned w128 c.args.epoch.now.tag = search rules in
-    let delays = c.args.settings.now.delays in
-    let system = (use_of c.args.settings.now.signal c.args.galileo.now c.args.seen.now.sat).0 in
+    let delays = c.args.self.now.settings.now.delays in
+    let system = (use_of c.args.self.now.settings.now.signal c.args.self.now.galileo c.args.seen.now.sat).0 in
     let y = ap (λ (u : System × Signal). u.0) c.use_of-system.ensures in
     let e = c.base_of.ensures in
     let holds = e.holds delays in
@@ -46,7 +46,7 @@ returns-in-Usable-clause-base c =
     record {
       sat = e.sat;
       usable = (c.in-Usable.ensures.0.usable, c.in-Usable.ensures.1);
-      comes = λ p chain inside allowed. known_comes (sighting_by c.args.galileo.now c.args.nav.now c.args.settings.now c.args.epoch.now.tag c.args.seen.now) (codes_of c.in-Usable.codes) c.in-Usable.elements c.in-Usable.ensures.0 delays (bound_for c.args.seen.now.sat (value_of_settings c.args.settings.now)) base comes p chain allowed;
+      comes = λ p chain inside allowed. known_comes (sighting_by c.args.self.now.galileo c.args.self.now.nav.now c.args.self.now.settings.now c.args.epoch.now.tag c.args.seen.now) (codes_of c.in-Usable.codes) c.in-Usable.elements c.in-Usable.ensures.0 delays (bound_for c.args.seen.now.sat (value_of_settings c.args.self.now.settings.now)) base comes p chain allowed;
       declared = ap (λ (s : Span). ends s) e.err ∙ c.bound_of-declared.ensures;
       narrow = e.narrow;
       search = c.requires.root;

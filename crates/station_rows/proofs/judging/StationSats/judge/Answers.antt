@@ -1,0 +1,21 @@
+use Rattle.std.proofs.Common.{refl, ap, inl, inr}
+use Rattle.gnss_model.specs.declared.satellites.Signal.{Signal}
+use Rattle.gnss_model.specs.declared.systems.System.{System}
+use Rattle.grid_model.specs.Boxes.{grid_box}
+use Rattle.sat_rows.proofs.RowLemmas.{known_plausible}
+use Rattle.station_epochs.specs.Stations.{station_of}
+use Rattle.station_rows.specs.Judgements.{sighting_of}
+use Rattle.usable_sats.specs.Measured.{codes_of}
+use Rattle.station_rows.proofs.KnownLemmas.{their_codes, known_by_both, far_off}
+use Rattle.station_rows.proofs.judging.StationSats.judge.Goals as goal
+
+pub are_nearby-requires-clause-receiver_codes : goal.are_nearby-requires-clause-receiver_codes
+are_nearby-requires-clause-receiver_codes c =
+    let system = ap (λ (u : System × Signal). u.0) c.use_of-system.ensures in
+    rw system (known_plausible _ _ _ c.in-Usable.ensures.0)
+
+pub are_nearby-requires-clause-station_codes : goal.are_nearby-requires-clause-station_codes
+are_nearby-requires-clause-station_codes c =
+    let a = sighting_of c.args.self.now c.args.epoch.now.tag c.args.seen.now in
+    let system = ap (λ (u : System × Signal). u.0) c.use_of-system.ensures in
+    their_codes (station_of c.args.self.now.station) a (codes_of c.in-Usable.codes) c.in-Usable.elements c.in-Usable.ensures.0 c.in-Some.station c.in-Some.ensures _ system
