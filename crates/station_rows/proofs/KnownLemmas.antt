@@ -13,6 +13,7 @@ use Rattle.rinex_obs.specs.declared.obs.ObsEpoch.{ObsEpoch}
 use Rattle.rinex_obs.specs.declared.obs.SatObs.{SatObs}
 use Rattle.sat_rows.specs.RowSizes.{AreNarrow, IsNearEpoch}
 use Rattle.sat_rows.proofs.RowLemmas.{known_near, known_near_at, narrow_codes}
+use Rattle.station_epochs.specs.Grounds.{IsNearGround}
 use Rattle.station_epochs.specs.Stations.{Station, IsInTime, IsStationEpoch}
 use Rattle.station_rows.specs.Differences.{CommonView}
 use Rattle.station_rows.specs.Judgements.{IsItsObservation, IsKnownByBoth}
@@ -99,6 +100,15 @@ module _ (delays : Delays) (root : GridBox) (station : Station) (a : Sighting) (
   of_view : (Meets : CommonView → Type 0) → Meets (common_view station a known.usable known.seen)
       → Meets view
   of_view Meets h = subst Meets known.view_is h
+
+  pub receiver_from : pos 0 ≤ℤ a.tag → pos 0 ≤ℤ view.receiver.tag
+  receiver_from h = of_view (λ v. pos 0 ≤ℤ v.receiver.tag) h
+
+  pub receiver_under : a.tag <ℤ pos time_bound → view.receiver.tag <ℤ pos time_bound
+  receiver_under h = of_view (λ v. v.receiver.tag <ℤ pos time_bound) h
+
+  pub known_ground : IsNearGround station.place → IsNearGround view.place
+  known_ground h = of_view (λ v. IsNearGround v.place) h
 
   pub station_from : pos 0 ≤ℤ view.station.tag
   station_from = of_view (λ v. pos 0 ≤ℤ v.station.tag) known.seen.epoch.tag_from

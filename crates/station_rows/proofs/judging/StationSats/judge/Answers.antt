@@ -19,3 +19,10 @@ are_nearby-requires-clause-station_codes c =
     let a = sighting_of c.args.self.now c.args.epoch.now.tag c.args.seen.now in
     let system = ap (λ (u : System × Signal). u.0) c.use_of-system.ensures in
     their_codes (station_of c.args.self.now.station) a (codes_of c.in-Usable.codes) c.in-Usable.elements c.in-Usable.ensures.0 c.in-Some.station c.in-Some.ensures _ system
+
+pub returns-in-Some-then-are_nearby-clause-known : goal.returns-in-Some-then-are_nearby-clause-known
+returns-in-Some-then-are_nearby-clause-known c =
+    let a = sighting_of c.args.self.now c.args.epoch.now.tag c.args.seen.now in
+    let system = ap (λ (u : System × Signal). u.0) c.use_of-system.ensures in
+    known_by_both (station_of c.args.self.now.station) a (codes_of c.in-Usable.codes) c.in-Usable.elements c.in-Usable.ensures.0 c.in-Some.station c.in-Some.ensures _ system
+    c.args.self.now.settings.now.delays (grid_box c.args.root.now) c.in-Usable.ensures.1 (c.are_nearby.ensures.0 c.if-are_nearby.true)
