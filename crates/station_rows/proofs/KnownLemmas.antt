@@ -1,7 +1,7 @@
 -- A satellite that is usable by both is known by one view, and this is near enough for a row.
-use Rattle.std.proofs.Common.{◌≡◌, ℕ, ◌+◌, ◌*◌, ◌^◌, ◌≤◌, arith, refl, sym, ap, subst, ◌∙◌, Some, slice_get}
+use Rattle.std.proofs.Common.{◌≡◌, ℕ, ◌+◌, ◌*◌, ◌^◌, ◌≤◌, arith, refl, sym, ap, subst, ◌∙◌, None, Some, slice_get}
 use Rattle.std.specs.Prelude.{ℤ, pos, ◌-ℤ◌, ◌≤ℤ◌, ◌<ℤ◌, unsigned_abs}
-use Rattle.std.proofs.lemmas.Option.{same_Some}
+use Rattle.std.proofs.lemmas.Option.{none-some, same_Some}
 use Rattle.gnss_model.specs.Pseudorange.{Codes}
 use Rattle.gnss_model.specs.RecordBounds.{time_bound}
 use Rattle.gnss_model.specs.declared.delays.Delays.{Delays}
@@ -44,11 +44,11 @@ viewed system tag other codes other_codes el place = record {
   place = place;
 }
 
-viewed_one : (system other : System) (tag time late : ℤ) (c d v w : Codes) (el used : Elements) (place : Pos)
-    → system ≡ other → time ≡ late → c ≡ v → d ≡ w → el ≡ used
-    → viewed system tag time c d el place ≡ viewed other tag late v w used place
-viewed_one system other tag time late c d v w el used place s t e f g =
-    λ i. viewed (s i) tag (t i) (e i) (f i) (g i) place
+viewed_one : (system other : System) (tag own time late : ℤ) (c d v w : Codes) (el used : Elements) (place : Pos)
+    → system ≡ other → tag ≡ own → time ≡ late → c ≡ v → d ≡ w → el ≡ used
+    → viewed system tag time c d el place ≡ viewed other own late v w used place
+viewed_one system other tag own time late c d v w el used place s r t e f g =
+    λ i. viewed (s i) (r i) (t i) (e i) (f i) (g i) place
 
 module _ (station : Station) (a : Sighting) where
   pub view_one : (u v : IsUsable a) (s t : IsSeenByStation station a)
@@ -57,19 +57,35 @@ module _ (station : Station) (a : Sighting) where
       let epoch = epoch_one station a.tag s.epoch t.epoch s.epoch_is t.epoch_is in
       let seen = same_Some s.seen t.seen (sym s.seen_is ∙ (ap (λ (e : ObsEpoch). observed_in a.seen.sat e.sats.items) epoch ∙ t.seen_is)) in
       let codes = value_one a.signal t.seen s.measured.codes t.measured.codes (subst (λ (o : SatObs). HaveValue a.signal o s.measured.codes) seen s.measured.values) t.measured.values in
-      viewed_one a.system a.system a.tag s.epoch.tag t.epoch.tag u.measured.codes s.measured.codes v.measured.codes t.measured.codes u.el v.el station.place
-      refl (ap (λ (e : ObsEpoch). e.tag) epoch) (codes_one a u v) codes (elements_one a u v)
+      viewed_one a.system a.system a.tag a.tag s.epoch.tag t.epoch.tag u.measured.codes s.measured.codes v.measured.codes t.measured.codes u.el v.el station.place
+      refl refl (ap (λ (e : ObsEpoch). e.tag) epoch) (codes_one a u v) codes (elements_one a u v)
+
+  -- ---- a satellite that the station lacks, or has with no code in range
+
+  pub lacks_sat : (e : ObsEpoch) → IsStationEpoch station a.tag e
+      → observed_in a.seen.sat e.sats.items ≡ None → IsSeenByStation station a → ⊥
+  lacks_sat e is none s =
+      none-some s.seen (sym none ∙ (ap (λ (f : ObsEpoch). observed_in a.seen.sat f.sats.items) (epoch_one station a.tag e s.epoch is s.epoch_is) ∙ s.seen_is))
+
+  pub lacks_codes : (e : ObsEpoch) (seen : SatObs) → IsStationEpoch station a.tag e
+      → observed_in a.seen.sat e.sats.items ≡ Some seen
+      → ((codes : Codes) → HaveValue a.signal seen codes → ArePlausible a.system codes → ⊥)
+      → IsSeenByStation station a → ⊥
+  lacks_codes e seen is found none s =
+      let same = same_Some s.seen seen (sym s.seen_is ∙ (ap (λ (f : ObsEpoch). observed_in a.seen.sat f.sats.items) (epoch_one station a.tag s.epoch e s.epoch_is is) ∙ found)) in
+      none s.measured.codes (subst (λ (o : SatObs). HaveValue a.signal o s.measured.codes) same s.measured.values) s.measured.plausible
 
 -- ---- a satellite that both observed
 
 module _ (station : Station) (a : Sighting) (codes : Codes) (el : Elements) (own : IsKnownBy a codes el)
-    (o : Observation) (theirs : IsItsObservation station a o) (system : System) (system_is : system ≡ a.system) where
+    (o : Observation) (theirs : IsItsObservation station a o) (system : System) (system_is : system ≡ a.system)
+    (tag : ℤ) (tag_is : tag ≡ a.tag) where
   abbrev pub their_view : CommonView
-  their_view = viewed system a.tag o.tag codes (codes_of o.codes) el station.place
+  their_view = viewed system tag o.tag codes (codes_of o.codes) el station.place
 
   their_view_is : common_view station a own.usable theirs.seen ≡ their_view
-  their_view_is = viewed_one a.system system a.tag theirs.seen.epoch.tag o.tag own.usable.measured.codes theirs.seen.measured.codes codes (codes_of o.codes) own.usable.el el station.place
-      (sym system_is) theirs.tag_is own.codes_are theirs.codes_are own.el_is
+  their_view_is = viewed_one a.system system a.tag tag theirs.seen.epoch.tag o.tag own.usable.measured.codes theirs.seen.measured.codes codes (codes_of o.codes) own.usable.el el station.place
+      (sym system_is) (sym tag_is) theirs.tag_is own.codes_are theirs.codes_are own.el_is
 
   pub their_codes : ArePlausible system (codes_of o.codes)
   their_codes = subst (λ (y : System). ArePlausible y (codes_of o.codes)) (sym system_is) (subst (ArePlausible a.system) theirs.codes_are theirs.seen.measured.plausible)

@@ -1,6 +1,7 @@
 -- What a satellite is judged to be that a receiver and a station observed. No public clause cites
 -- this.
-use Rattle.std.specs.Prelude.{◌≡◌, ℤ}
+use Rattle.std.specs.Prelude.{◌≡◌, ℤ, ◌≤ℤ◌}
+use Rattle.fix_interval.specs.declared.exact.Exact.{Exact}
 use Rattle.gnss_model.specs.declared.delays.Delays.{Delays}
 use Rattle.grid_model.specs.Boxes.{GridBox}
 use Rattle.rinex_obs.specs.declared.obs.SatObs.{SatObs}
@@ -32,3 +33,8 @@ pub record IsKnownByBoth (delays : Delays) (root : GridBox) (station : Station) 
   pub seen : IsSeenByStation station a
   pub view_is : common_view station a usable seen ≡ view
   pub nearby : AreNearby view
+
+-- the members of an interval are members of another
+pub record LiesIn (members all : Exact) : Type 0 where
+  pub from : all.lo ≤ℤ members.lo
+  pub to : members.hi ≤ℤ all.hi

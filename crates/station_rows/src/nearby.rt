@@ -1,10 +1,12 @@
 //! Whether a single difference is as small as the pseudorange of a row.
 
-ghost use Rattle.std.specs.Prelude.{◌≡◌, ◌↔◌, ◌*◌, pos, neg_ℤ, IsTrue};
+ghost use Rattle.std.specs.Prelude.{◌≡◌, ◌↔◌, ◌*◌, pos, neg_ℤ, ◌-ℤ◌, IsTrue};
 ghost use Rattle.gnss_model.specs.Systems.{squares_apart};
 ghost use Rattle.gnss_model.specs.declared.systems.System.{System};
 ghost use Rattle.station_rows.specs.Nearby.{AreCodesNear, AreNear, AreNearby, HasNearRecord};
-ghost use Rattle.station_rows.specs.Nearby.{pseudoranges_apart};
+ghost use Rattle.grid_model.specs.Sizes.{IsWithin};
+ghost use Rattle.station_rows.specs.Judgements.{LiesIn};
+ghost use Rattle.station_rows.specs.Nearby.{clock_time_reach, pseudoranges_apart};
 ghost use Rattle.station_rows.specs.Observations.{observed_by, view_of};
 ghost use Rattle.usable_sats.specs.Measured.{codes_of};
 ghost use Rattle.usable_sats.specs.Usability.{ArePlausible, IsPlausible};
@@ -31,9 +33,10 @@ pub(crate) fn are_nearby(common: &CommonSat, el: &Elements) -> bool
     requires station_codes { ArePlausible common.now.system (codes_of common.now.station.codes) }
     ensures { IsTrue result ↔ AreNearby (view_of common.now el.now) }
 {
-    has_near_record(&common.receiver, el)
-        && has_near_record(&common.station, el)
-        && are_pseudoranges_near(common)
+    if !has_near_record(&common.receiver, el) {
+        return false;
+    }
+    has_near_record(&common.station, el) && are_pseudoranges_near(common)
 }
 
 /// Whether the record is of a medium orbit, and its clock time near the reception.
@@ -41,9 +44,13 @@ fn has_near_record(observation: &Observation, el: &Elements) -> bool
     ensures { (system : System)
         → (IsTrue result ↔ HasNearRecord (observed_by system observation.now el.now)) }
 {
-    if el.root_a.hi > MEDIUM_ROOT_A {
-        return false;
-    }
+    el.root_a.hi <= MEDIUM_ROOT_A && is_near_in_time(observation, el)
+}
+
+/// Whether the clock time is near.
+fn is_near_in_time(observation: &Observation, el: &Elements) -> bool
+    ensures { IsTrue result ↔ IsWithin clock_time_reach (observation.now.tag -ℤ el.now.toc) }
+{
     observation.tag.abs_diff(el.toc) <= CLOCK_TIME_REACH
 }
 
@@ -73,7 +80,11 @@ fn are_codes_near(code: Wide, other: Wide) -> bool
     ensures { IsTrue result ↔ AreNear code.lo code.hi other.lo other.hi 1 }
 {
     let apart = single(code).minus(single(other));
-    -PSEUDORANGES_APART <= apart.lo && apart.hi <= PSEUDORANGES_APART
+    let most = Exact {
+        lo: -PSEUDORANGES_APART,
+        hi: PSEUDORANGES_APART,
+    };
+    lies_in(&apart, &most)
 }
 
 /// Whether two ionosphere-free combinations are, each times the difference of the squares of the
@@ -85,7 +96,17 @@ fn are_combinations_near(own: Exact, other: Exact, system: System) -> bool
 {
     let apart = own.minus(other);
     let most = combinations_apart(system);
-    most.lo <= apart.lo && apart.hi <= most.hi
+    lies_in(&apart, &most)
+}
+
+/// Whether all members of an interval are members of another.
+fn lies_in(members: &Exact, all: &Exact) -> bool
+    ensures { IsTrue result ↔ LiesIn members.now all.now }
+{
+    if members.lo < all.lo {
+        return false;
+    }
+    members.hi <= all.hi
 }
 
 /// How far they may be apart.
