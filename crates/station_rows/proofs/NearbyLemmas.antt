@@ -1,20 +1,17 @@
 -- By how much pseudoranges differ whose codes, or combinations of codes, are near.
-use Rattle.std.proofs.Common.{◌≡◌, refl, ℕ, ◌+◌, ◌*◌, ◌^◌, ◌≤◌, arith, lit≤}
-use Rattle.std.specs.Prelude.{ℤ, pos, neg_ℤ, ◌+ℤ◌, ◌-ℤ◌, ◌*ℤ◌, ◌≤ℤ◌, ◌<ℤ◌, Option, None, Some}
+use Rattle.std.proofs.Common.{refl, ℕ, ◌+◌, ◌*◌, arith}
+use Rattle.std.specs.Prelude.{ℤ, pos, neg_ℤ, ◌-ℤ◌, ◌≤ℤ◌, ◌<ℤ◌, Option, None, Some}
 use Rattle.std.proofs.lemmas.Int.{ints}
 use Rattle.gnss_model.specs.Pseudorange.{IsRangeWith}
-use Rattle.gnss_model.specs.Systems.{first_square, second_square, squares_apart}
+use Rattle.gnss_model.specs.Systems.{squares_apart}
 use Rattle.gnss_model.specs.declared.systems.System.{System}
-use Rattle.gnss_model.specs.declared.systems.System.TheVariants.{Gps, Galileo}
-use Rattle.gnss_model.specs.declared.systems.Message.TheVariants.{Fnav, Inav}
 use Rattle.grid_model.specs.Rounding.{Near}
 use Rattle.grid_model.specs.Sizes.{IsWithin}
 use Rattle.grid_model.specs.declared.spans.Wide.{Wide}
 use Rattle.grid_model.proofs.IntervalLemmas.{difference_by}
 use Rattle.grid_model.proofs.ProductLemmas.{mul_le_back, less_mul}
 use Rattle.pseudorange_prep.proofs.WidthLemmas.{apart_positive, code_member}
-use Rattle.station_rows.specs.Nearby.{AreNear, AreNearWith, pseudoranges_apart}
-use Rattle.usable_sats.specs.Usability.{IsPlausible}
+use Rattle.station_rows.specs.Nearby.{AreNearWith, pseudoranges_apart}
 
 -- ---- the pseudoranges: combinations are rounded by one unit each
 

@@ -31,11 +31,7 @@ impl<'a> StationSats<'a> {
 
     /// What the station observed of the satellite in its epoch that goes with that of the receiver,
     /// where the wanted codes are there and in range.
-    pub(crate) fn observed_by_station(
-        &self,
-        seen: &SatObs,
-        epoch: &ObsEpoch,
-    ) -> Option<Observation>
+    pub(crate) fn observed_by_station(&self, seen: &SatObs, epoch: &ObsEpoch) -> Option<Observation>
         ensures { MatchOption result
             (IsSeenByStation (station_of self.now.station)
             (sighting_of self.now epoch.now.tag seen.now) → ⊥)

@@ -1,5 +1,3 @@
-use Rattle.std.proofs.Common.{arith}
-use Rattle.std.proofs.lemmas.Int.{ints}
 use Rattle.station_rows.proofs.nearby.are_combinations_near.Goals as goal
 
 pub returns : goal.returns
