@@ -1,6 +1,6 @@
 //! A satellite that a receiver and a station observed, and the row of their difference.
 
-ghost use Rattle.std.specs.Prelude.{◌≤◌, length, IfOk};
+ghost use Rattle.std.specs.Prelude.{◌≡◌, ◌≤◌, length, IfOk};
 
 use crate::rows_overhead::around;
 use crate::usable_satellites::{FRESH, SAT, SETTINGS, TAG, nav_of};
@@ -46,8 +46,24 @@ fn observed(alloc: Global, number: u8, code: Option<i64>) -> Result<Vec<SatObs>,
     Ok(sats)
 }
 
-/// The line of G01, which was observed with a code in mm, beside a station on the equator that
-/// observed a satellite at most once, so many ps later.
+/// A station on the equator with at most one epoch.
+fn on_the_equator(epochs: &[ObsEpoch]) -> KnownStation<'_>
+    requires { length epochs.now ≤ 1 }
+    ensures { result.age ≡ AGE }
+{
+    KnownStation {
+        place: Pos {
+            x: 6_378_137_000_000,
+            y: 0,
+            z: 0,
+        },
+        age: AGE,
+        epochs,
+    }
+}
+
+/// The line of G01, which was observed with a code in mm, beside a station that observed a
+/// satellite at most once, so many ps later.
 fn line_beside(
     alloc: Global,
     code: i64,
@@ -72,19 +88,10 @@ fn line_beside(
     if settings.max_age > 14_000 || epochs.len() > 1 {
         return Err(Fail::from("old"));
     }
-    let station = KnownStation {
-        place: Pos {
-            x: 6_378_137_000_000,
-            y: 0,
-            z: 0,
-        },
-        age: AGE,
-        epochs: &epochs,
-    };
     let source = FileRows {
         nav: &nav,
         settings: &settings,
-        station: Some(station),
+        station: Some(on_the_equator(&epochs)),
     };
     let epoch = ObsEpoch {
         index: 1,
