@@ -12,11 +12,7 @@ TOP = Path(__file__).resolve().parent
 
 def pytest_addoption(parser: pytest.Parser) -> None:
     """The options that tests of the built program and of the workflow have."""
-    parser.addoption(
-        "--program",
-        metavar="PATH",
-        help="the built program (that which ./gpscover runs, if it is there)",
-    )
+    parser.addoption("--program", metavar="PATH", help="the built program (that which ./gpscover runs, if it is there)")
     parser.addoption("--slurm", action="store_true", help="run the workflow's tests on a Slurm")
 
 
@@ -30,14 +26,10 @@ def pytest_configure(config: pytest.Config) -> None:
 
 def path_of_wrapper() -> str | None:
     """The program that ./gpscover runs, or None where it would have to be proved and built first."""
-    told = subprocess.run(
-        [TOP / "gpscover", "--version"], capture_output=True, text=True, check=False
-    ).stdout
+    told = subprocess.run([TOP / "gpscover", "--version"], capture_output=True, text=True, check=False).stdout
     if "\nreleased: " not in told and "\nbuilt here: " not in told:
         return None
-    return subprocess.run(
-        [TOP / "gpscover", "--path"], capture_output=True, text=True, check=True
-    ).stdout.strip()
+    return subprocess.run([TOP / "gpscover", "--path"], capture_output=True, text=True, check=True).stdout.strip()
 
 
 @pytest.fixture(scope="session")

@@ -4,6 +4,7 @@ The verdicts are those of `gpscover check` and `gpscover judge`, or found by han
 the mapping, from docs/EQUATIONS.md. The proved program is asked the same by `check`, `retrack` and `judge`.
 """
 import ast
+import importlib.util
 import re
 import shutil
 import subprocess
@@ -13,13 +14,17 @@ from itertools import product
 from pathlib import Path
 
 import pytest
-import recheck
 
 TOP = Path(__file__).resolve().parent.parent
+# Loaded by its path, for the values that its command line doesn't print: nothing imports it, so that it stands alone.
+SPEC = importlib.util.spec_from_file_location("recheck", TOP / "second/recheck.py")
+recheck = sys.modules[SPEC.name] = importlib.util.module_from_spec(SPEC)
+SPEC.loader.exec_module(recheck)
 DATA = TOP / "crates/gpscover/data"
 FILES = [DATA / name for name in ("receiver.obs", "receiver.nav", "settings.toml")]
 LOG = DATA / "receiver.log"
-WRONG_WORDS = 2, "usage: recheck.py [--track] OBS NAV SETTINGS LOG [--from N] [--to N], or recheck.py LOG\n"
+WRONG_WORDS = 2, ("usage: recheck.py [--track] OBS NAV SETTINGS LOG [--from N] [--to N] [--station STATION], or"
+                  " recheck.py LOG\n")
 
 
 def verdict(*words):
@@ -88,6 +93,7 @@ def wrong_word_cases():
     """(words, status and line) of wrong command lines."""
     options = [("--from", number) for number in ("0", "02", "+2", "-2", "2.0", "200001", "x", "")]
     options += [("--from",), ("--from", "1", "--from", "2"), ("--till", "3"), ("--to", "3", "x"), ("--track",)]
+    options += [("--station",), ("--station", "-x"), ("--station", "x", "--station", "x")]
     return [((*FILES, LOG, *option), WRONG_WORDS) for option in options] + [(words, WRONG_WORDS) for words in (
         ("--from", "2", *FILES, LOG), (LOG, "--from", "2"), (), ("--track",), ("--track", LOG),
         ("--track", "--track", *FILES, LOG))]
@@ -142,7 +148,9 @@ def sure_cases(folder):
         yield (written(folder, f"sure{number}.log", "\n".join(lines)),), wanted
     for number, (skip, wanted) in enumerate((
             ("skip G02 7", (0, "yes 0\n")), ("skip G02 7 1", KIND_3), ("skip G02 7 0", KIND_3),
-            ("skip G02 6", KIND_3), ("skip G02 8", KIND_3), ("skip G02 07", KIND_3), ("skip G02 0", KIND_3))):
+            ("skip G02 6", KIND_3),
+            ("skip G02 8", (0, "yes 0\n")), ("skip G02 9", (0, "yes 0\n")), ("skip G02 9 0", KIND_3), ("skip G02 10", KIND_3),
+            ("skip G02 07", KIND_3), ("skip G02 0", KIND_3))):
         few = f"gpscover 1\nrules 1 0 1000000\nfew 1 0 0\n{skip}\n"
         yield (written(folder, f"skip{number}.log", few),), wanted
 
@@ -732,10 +740,260 @@ def tube_values(folder):
     yield "hull", recheck.hull([[0, 5, -3, 1, 6, -2], [-4, 5, -9, -3, 7, -8]]), [-4, 5, -9, 1, 7, -2]
 
 
+# A receiver with a station: four epochs of eight satellites, all of which the station has too. With q = 8 every epoch has
+# too few satellites, so that a log is no more than what is usable.
+PAIR = TOP / "examples/station"
+PAIR_STARTS = [(796435200 + 30 * index) * 10**12 for index in range(4)]
+SEEN = "G03 G07 G08 G11 G19 G20 G24 G28".split()
+
+
+def pair_text(name):
+    """The text of a file of the example with a station."""
+    return (PAIR / name).read_text()
+
+
+def replaced(text, old, new, place=0):
+    """A text in which the occurrence of a number, or the first, is another text."""
+    parts = text.split(old)
+    assert len(parts) > place + 1, old
+    return old.join(parts[:place + 1]) + new + old.join(parts[place + 1:])
+
+
+def pair_paths(folder, name, outliers=8, **texts):
+    """The receiver's files and the words of the station, some with other texts, and q of the settings."""
+    settings = texts.get("settings", pair_text("settings.toml"))
+    settings = settings.replace("outliers = 1\n", f"outliers = {outliers}\n").replace("half = 1000000", "half = 200000")
+    new = texts | {"settings": settings}
+    made = {kind: written(folder, f"pair-{name}.{kind}", new[kind]) for kind in new}
+    paths = [made.get(kind, PAIR / own) for kind, own in (
+        ("obs", "receiver.obs"), ("nav", "receiver.nav"), ("settings", ""))]
+    return paths, ["--station", made.get("station", PAIR / "station.obs")]
+
+
+def few_log(folder, name, skips=()):
+    """A log of four epochs of too few satellites, in which some (epoch, satellite) are skipped for a reason."""
+    lines = ["gpscover 3", "rules 8 512 100000"]
+    for index, start in enumerate(PAIR_STARTS, 1):
+        left = [(satellite, dict(skips).get((index, satellite))) for satellite in SEEN]
+        lines.append(f"few {index} {start} {sum(reason is None for _, reason in left)}")
+        lines += [f"skip {satellite} {reason}" for satellite, reason in left if reason]
+    return written(folder, f"pair-{name}.log", "\n".join([*lines, ""]))
+
+
+def station_line(satellite, epoch):
+    """A line of the station's file: a satellite in an epoch."""
+    return [line for line in pair_text("station.obs").splitlines(keepends=True) if line.startswith(satellite)][epoch - 1]
+
+
+def without_line(satellite, epoch):
+    """The station's file without a satellite in an epoch."""
+    text = pair_text("station.obs")
+    heads = [line for line in text.splitlines() if line[0] == ">"]
+    text = replaced(text, heads[epoch - 1], heads[epoch - 1].replace("  0  9", "  0  8"))
+    return replaced(text, station_line(satellite, epoch), "")
+
+
+def with_code(satellite, epoch, code, second=None):
+    """The station's file with other codes of a satellite in an epoch."""
+    line = station_line(satellite, epoch)
+    new = f"{line[:3]}{code:>14}{line[17:]}"
+    new = new if second is None else f"{new[:35]}{second:>14}{new[49:]}"
+    return replaced(pair_text("station.obs"), line, new)
+
+
+def without_epoch(epoch, text=None):
+    """The station's file without an epoch."""
+    head, *epochs = re.split(r"(?m)^(?=>)", text or pair_text("station.obs"))
+    return "".join([head, *(it for number, it in enumerate(epochs, 1) if number != epoch)])
+
+
+def at_minute(minute):
+    """The station's file, its epochs so many minutes later."""
+    return re.sub(r"(?m)^> 2005 04 02 00 0", f"> 2005 04 02 00 {minute // 10}", pair_text("station.obs"))
+
+
+def with_age(age, max_age=7200):
+    """The settings with another age of the station's epochs."""
+    return pair_text("settings.toml").replace("age = 30", f"age = {age}").replace("max_age = 7200", f"max_age = {max_age}")
+
+
+def all_of(*epochs, reason=8):
+    """Each satellite is skipped in these epochs."""
+    return {(epoch, satellite): reason for epoch in epochs for satellite in SEEN}
+
+
+def station_skip_cases(folder):
+    """(words, status and line) of what is usable with a station: reasons 8 and 9, and which epoch of it goes with one."""
+    nav = pair_text("receiver.nav")
+    clock = re.search(r"G08 (2005 04 02 00 00 00)", nav).group()
+    record = nav[nav.index(clock):].splitlines()
+    root = record[2][61:80]
+    cases = (
+        ("plain", {}, {}),
+        ("lacks", {"station": without_line("G08", 2)}, {(2, "G08"): 8}),
+        ("blank", {"station": with_code("G08", 2, "")}, {(2, "G08"): 8}),
+        ("zero", {"station": with_code("G08", 2, "0.000")}, {(2, "G08"): 8}),
+        ("near", {"station": with_code("G08", 2, "14999999.999")}, {(2, "G08"): 8}),
+        # The codes of both are 5,000 km apart, and a mm more: 16.7 ms.
+        ("above", {"station": with_code("G03", 1, "29767686.375")}, {}),
+        ("far", {"station": with_code("G03", 1, "29767686.376")}, {(1, "G03"): 9}),
+        ("below", {"station": with_code("G03", 1, "19767686.375")}, {}),
+        ("under", {"station": with_code("G03", 1, "19767686.374")}, {(1, "G03"): 9}),
+        # Of the epochs before and behind, as near as each other, the later one is taken.
+        ("gap", {"station": without_epoch(3)}, {}),
+        ("later", {"station": without_epoch(3, without_line("G08", 4))}, {(3, "G08"): 8, (4, "G08"): 8}),
+        ("earlier", {"station": without_epoch(3, without_line("G08", 2))}, {(2, "G08"): 8}),
+        ("old", {"station": without_epoch(3), "settings": with_age(29)}, all_of(3)),
+        ("first", {"station": without_epoch(1), "settings": with_age(29)}, all_of(1)),
+        ("last", {"station": without_epoch(4), "settings": with_age(29)}, all_of(4)),
+        # Ten minutes off, and another day.
+        ("ten", {"station": at_minute(10), "settings": with_age(600)}, {}),
+        ("nine", {"station": at_minute(10), "settings": with_age(599)}, all_of(1)),
+        ("day", {"station": pair_text("station.obs").replace("> 2005 04 02", "> 2005 04 03")}, all_of(1, 2, 3, 4)),
+        ("none", {"station": re.split(r"(?m)^(?=>)", pair_text("station.obs"))[0]}, all_of(1, 2, 3, 4)),
+        # A clock time that is 6 h from both epochs, and more; a root of the axis.
+        ("toc", {"nav": nav.replace(clock, "G08 2005 04 01 18 00 00")}, {(epoch, "G08"): 9 for epoch in (2, 3, 4)}),
+        ("axis", {"nav": nav.replace(root, " 5.600000000000D+03")}, {}),
+        ("odd", {"nav": nav.replace(root, " 5.600000000001D+03")}, {(epoch, "G08"): 9 for epoch in (1, 2, 3, 4)}),
+        # What isn't usable by the receiver alone isn't judged by the station.
+        ("both", {"obs": replaced(pair_text("receiver.obs"), "23407378.219", " " * 12), "station": without_line("G08", 1)},
+         {(1, "G08"): 1}),
+        # A station at the pole.
+        ("pole", {"settings": re.sub(r"place = \[.*", "place = [0, 0, 6356752000]", pair_text("settings.toml"))}, {}))
+    for name, texts, skips in cases:
+        paths, station = pair_paths(folder, name, **texts)
+        yield (*paths, few_log(folder, name, skips), *station), YES_0
+        if skips:
+            yield (*paths, few_log(folder, f"{name}0"), *station), (1, "no 52 SatelliteDiffers line "
+                                                                    f"{2 + min(epoch for epoch, _ in skips)}\n")
+    # With two codes the combinations are compared: 5929 of the first less 3600 of the second, over 2329.
+    dual = pair_text("settings.toml").replace('"single"', '"dual"').replace('["C1C"]', '["C1C", "C2W"]')
+    for name, first, second, skips in (
+            ("exact", "29767686.375", "29767684.822", {}), ("more", "29767686.376", "29767684.822", {(1, "G03"): 9}),
+            ("less", "29767686.375", "29767684.821", {(1, "G03"): 9}), ("low", "19767686.375", "19767684.822", {}),
+            ("lower", "19767686.374", "19767684.822", {(1, "G03"): 9}), ("half", "29767686.375", "", {(1, "G03"): 8})):
+        paths, station = pair_paths(folder, f"dual{name}", settings=dual, station=with_code("G03", 1, first, second))
+        yield (*paths, few_log(folder, f"dual{name}", skips), *station), YES_0
+
+
+def station_file_cases(folder):
+    """(words, status and line) of files that are refused, of the order of reading, and of the words without the table."""
+    log = few_log(folder, "files")
+    settings, station = pair_text("settings.toml"), pair_text("station.obs")
+    bare = re.sub(r"(?ms)^\[station\].*?(?=\n# Two)", "", settings)
+    place = re.search(r"place = .*", settings).group()
+    heads = [number for number, line in enumerate(station.splitlines(), 1) if line[0] == ">"]
+    end = heads[0] - 1
+    rows = station.splitlines(keepends=True)
+    twice = "".join(rows[:heads[1] - 1] + rows[heads[0] - 1:])
+    same = station.replace("00 00 30.0000000", "00 00 00.0000000")
+    event = "".join(rows[:heads[1] - 1] + [">" + " " * 30 + "4  0\n"] + rows[heads[0] - 1:])
+    header = settings.replace(place, 'place = "header"')
+    for number, (texts, wanted) in enumerate((
+            ({"settings": bare}, "settings 31 Missing station.place"),
+            ({"settings": bare + "[station]\n"}, "settings 31 Missing station.place"),
+            ({"settings": bare + "[station]\nage = 30\n"}, "settings 31 Missing station.place"),
+            ({"settings": bare + f"[station]\n{place}\n"}, "settings 31 Missing station.age"),
+            ({"settings": "station = 1\n" + bare}, "settings 32 WrongKind station.place"),
+            ({"settings": settings.replace(place, "place = 1")}, "settings 32 WrongKind station.place"),
+            ({"settings": settings.replace(place, "place = [1, 2, 3.0]")}, "settings 32 WrongKind station.place"),
+            ({"settings": settings.replace(place, 'place = "heads"')}, "settings 33 Outside station.place"),
+            ({"settings": settings.replace(place, "place = [1, 2]")}, "settings 33 Outside station.place"),
+            # 3960000^2 + 5280000^2 = 6600000^2, in m; a mm more is outside.
+            ({"settings": settings.replace(place, "place = [3960000000, -5280000000, 0]")}, YES_0),
+            ({"settings": settings.replace(place, "place = [3960000000, -5280000001, 0]")},
+             "settings 33 Outside station.place"),
+            ({"settings": settings.replace(place, "place = [3960000000, -5280000000, 1]")},
+             "settings 33 Outside station.place"),
+            ({"settings": with_age(0)}, "settings 33 Outside station.age"),
+            ({"settings": with_age(601)}, "settings 33 Outside station.age"),
+            ({"settings": with_age(600, 13800)}, YES_0),
+            ({"settings": with_age(600, 13801)}, "settings 33 Outside station.age"),
+            ({"settings": with_age("30.0")}, "settings 32 WrongKind station.age"),
+            ({"settings": settings.replace("age = 30", "age = 30\nclock = 1")}, "settings 34 Unknown station.clock"),
+            # Its header has 0 0 0, which is near enough to the origin.
+            ({"settings": header}, YES_0),
+            ({"settings": header, "station": station.replace("APPROX POSITION XYZ", "OTHER POSITION XYZ ")},
+             f"station 28 NoPosition line {end}"),
+            *(({"settings": header, "station": station.replace("        0.0000        0.0000        0.0000", place, 1)}, said)
+              for place, said in (
+                ("  3960000.0000  5280000.0000        0.0000", YES_0),
+                ("  3960000.0000  5280000.0000        0.0010", "settings 33 Outside station.place"),
+                ("  8500000.0000        0.0000        0.0000", "settings 33 Outside station.place"),
+                ("  8500000.0010        0.0000        0.0000", f"station 28 NoPosition line {end}"))),
+            ({"settings": header, "station": same.replace("        0.0000        0.0000", "  8000000.0000        0.0000", 1)},
+             f"station 43 NotRising line {heads[1]}"),
+            ({"station": same}, f"station 43 NotRising line {heads[1]}"),
+            ({"station": twice}, f"station 43 NotRising line {heads[1]}"),
+            ({"station": event}, f"station 43 NotRising line {heads[1] + 1}"),
+            # Before a fault of the lines behind it, and behind the other faults of its own.
+            ({"station": same.replace("23514323", "2351x323")}, f"station 43 NotRising line {heads[1]}"),
+            ({"station": station.replace("00 00 30.0000000", "00 00 60.0000000")}, f"station 19 BadEpoch line {heads[1]}"),
+            ({"station": station.replace("G    4 C1C", "G    4 C1W")}, f"station 16 CodeAbsent line {end}"),
+            # Files are read one after another: settings, navigation, station, observations, log.
+            ({"nav": "", "station": ""}, "nav 10 NotRinex line 1"),
+            ({"station": "", "obs": ""}, "station 10 NotRinex line 1"),
+            ({"obs": ""}, "obs 10 NotRinex line 1"))):
+        paths, words = pair_paths(folder, f"file{number}", **texts)
+        wanted = wanted if isinstance(wanted, tuple) else (3, wanted + "\n")
+        yield (*paths, log, *words), wanted
+    paths, words = pair_paths(folder, "table")
+    yield (*paths, log), (3, "settings 33 Outside station.place\n")
+    yield (*paths, log, "--station", folder + "/nothing"), (4, "station fault\n")
+    yield ("--track", *paths, log, *words), (3, "settings 31 Missing motion.speed\n")
+
+
+def row_log(folder, name, paths, station, epochs=2):
+    """A log of the first epochs of some files, whose rows are own ones of the second checker made wider by W and G."""
+    files = recheck.Files(*map(str, paths), 1, epochs, False, station and str(station))
+    lines = ["gpscover 3", "rules 1 512 100000"]
+    for epoch in files.epochs:
+        rooms = files.rooms(files.box)
+        found = files.satellites(epoch)
+        lines.append(f"epoch {epoch.index} {epoch.time} {len(found)}")
+        for satellite, used in found:
+            spans = [(low - room, high + room) for (low, high), room in zip(
+                files.row(epoch, satellite, used, files.box), rooms)]
+            (least, sure_low), (sure_high, most) = spans[4:]
+            ends = [end for span in spans[:4] for end in span] + [least, most, sure_low, sure_high]
+            lines.append(" ".join(["sat", satellite.decode(), *map(str, ends)]))
+        lines += ["root " + " ".join(map(str, files.box)), *KEEP]
+    return written(folder, f"pair-{name}.log", "\n".join([*lines, ""]))
+
+
+def station_row_cases(folder):
+    """(words, status and line) of rows of differences: G08's is on line 6 of the first epoch, and 18 of the second."""
+    last = ["--to", "2"]
+    paths, words = pair_paths(folder, "rows", 1)
+    log = row_log(folder, "rows", paths, words[1])
+    yield (*paths, log, *words, *last), (0, "yes 2\n")
+    yield (*paths, log, *last, *words), (0, "yes 2\n")
+    code = float(station_line("G08", 2)[3:17])
+    # W is 12 mm here.
+    for number, (moved, wanted) in enumerate((
+            (3, "no 53 RowNarrow line 18"), (-3, "no 53 RowNarrow line 18"), (0.02, "no 53 RowNarrow line 18"),
+            (0.005, "yes 2\n"), (-0.005, "yes 2\n"))):
+        others, station = pair_paths(folder, f"moved{number}", 1, station=with_code("G08", 2, f"{code + moved:.3f}"))
+        yield (*others, log, *station, *last), (1 if wanted[0] == "n" else 0, wanted)
+    lacking, station = pair_paths(folder, "lacking", 1, station=without_line("G08", 2))
+    yield (*lacking, log, *station, *last), (1, "no 52 SatelliteDiffers line 15\n")
+    # The station's place 2 cm off, and the receiver's epochs with those of the station 30 s later.
+    place = pair_text("settings.toml").replace("[-3978241958,", "[-3978241938,")
+    others, station = pair_paths(folder, "aside", 1, settings=place)
+    yield (*others, log, *station, *last), (1, "no 53 RowNarrow line 4")
+    others, station = pair_paths(folder, "beside", 1, station=without_epoch(1))
+    yield (*others, log, *station, *last), (1, "no 53 RowNarrow line 4")
+    # A log with a station without one, and the other way.
+    bare = re.sub(r"(?ms)^\[station\].*?(?=\n# Two)", "", pair_text("settings.toml"))
+    alone, _ = pair_paths(folder, "bare", 1, settings=bare)
+    yield (*alone, log, *last), (1, "no 53 RowNarrow line 4")
+    yield (*paths, row_log(folder, "bare", alone, None), *words, *last), (1, "no 53 RowNarrow line 4")
+
+
 # The folder goes with the tests' process.
 ROOM = tempfile.TemporaryDirectory()
 WORDS = (verdict_cases, sure_cases, zenith_cases, mapped_cases, pair_cases, pair_settings_cases, track_cases, speed_cases,
-         selection_cases)
+         selection_cases, station_skip_cases, station_file_cases, station_row_cases)
 VALUES = value_cases, tube_values
 
 
@@ -772,14 +1030,24 @@ def test_a_value(what, found, wanted):
     assert found == wanted, what
 
 
+def imported(source):
+    """The modules that a file imports, and what it takes of them."""
+    nodes = list(ast.walk(ast.parse(source.read_text())))
+    names = {alias.name for node in nodes if isinstance(node, ast.Import) for alias in node.names}
+    return names | {f"{'.' * node.level}{node.module or ''}.{alias.name}" for node in nodes
+                    if isinstance(node, ast.ImportFrom) for alias in node.names}
+
+
 def test_it_stands_alone(room):
     """It has the standard library alone, and runs with nothing of the repository beside it."""
     source = TOP / "second/recheck.py"
-    imports = [node for node in ast.walk(ast.parse(source.read_text())) if isinstance(node, (ast.Import, ast.ImportFrom))]
-    names = {alias.name for node in imports if isinstance(node, ast.Import) for alias in node.names}
-    names |= {"." * node.level + (node.module or "") for node in imports if isinstance(node, ast.ImportFrom)}
-    assert {name.partition(".")[0] for name in names} <= sys.stdlib_module_names
+    assert {name.partition(".")[0] for name in imported(source)} <= sys.stdlib_module_names
     shutil.copy(source, room)
     words = [sys.executable, "-I", "recheck.py", *FILES, LOG]
     ran = subprocess.run(words, cwd=room, env={}, capture_output=True, text=True, check=False)
     assert (ran.returncode, ran.stdout, ran.stderr) == (0, "yes 48\n", "")
+
+
+def test_nothing_imports_it():
+    files = [path for folder in ("python", "second", "tools", "workflow") for path in (TOP / folder).rglob("*.py")]
+    assert files and not [path for path in files if any(re.match(r"(second\.)?recheck\b", it) for it in imported(path))]

@@ -483,8 +483,8 @@ WRONG_WORDS = {
 # Lines whose first word can stand at their place, and whose fields can't.
 WRONG_FIELDS = {
     3: ("few 0 0 2", "few 200001 0 2", "few 1 4000000000000000000000 2", "few 1 -1 2", "few 1 0 65", "few 1 0", "few"),
-    4: ("skip G03", "skip G03 0", "skip G03 8", "skip G03 6", "skip G03 6 0", "skip G03 6 21", "skip G03 5 1",
-        "skip G03 7 0", "skip G03 7 1", "skip G03 07", "skip G03 3 0",
+    4: ("skip G03", "skip G03 0", "skip G03 10", "skip G03 6", "skip G03 6 0", "skip G03 6 21", "skip G03 5 1",
+        "skip G03 7 0", "skip G03 7 1", "skip G03 07", "skip G03 8 0", "skip G03 9 1", "skip G03 3 0",
         "skip G3 3", "skip G00 3", "skip G100 3", "skip R03 3", "skip g03 3", "skip 03 3",
         "skip  G03 3", "skip G03 3 ", "skip G03 03", "skip G03 3\r", "skip G03\t3", "skip G03 -3", "skip"),
     6: ("epoch 200001 2000000000000 5", "epoch 4 2000000000000", "epoch 4 2000000000000 05", "epoch 4 0 65"),
@@ -589,7 +589,7 @@ def refused_rows():
         ({1: "gpscover 2"}, "line 1 kind 1"),
         ({2: "rules 9 3 1000000"}, "line 2 kind 1"),
         ({8: "cut 0 1 15000000"}, "line 8 kind 2"),
-        ({8: "skip G09 8"}, "line 8 kind 3"),
+        ({8: "skip G09 10"}, "line 8 kind 3"),
         ({8: "skip G09 7 1"}, "line 8 kind 3"),
         ({7: rows[6] + " -1000000 1000000"}, "line 7 kind 3"),
         ({7: rows[6] + " -1000000"}, "line 7 kind 3"),

@@ -24,8 +24,8 @@ HEAD = """# From the headline down to the definitions
 
 {sentence}
 
-Ten links lead from this sentence of the README to the equations, and an eleventh says what renewed rows are. What
-stands in a frame is copied from the file above it by `tools/headline.py`, which fails where a name is gone. `×`
+Ten links lead from this sentence of the README to the equations, an eleventh says what renewed rows are, and a twelfth what
+rows with a station mean. What stands in a frame is copied from the file above it by `tools/headline.py`, which fails where a name is gone. `×`
 reads 'and', `⊎` reads 'or', `→` reads 'implies' or 'for all', `≡` reads 'is', `⊥` reads 'never', `Unit {{0}}` reads
 'always', `(x : T) ×` reads 'there is an x', and a record is the conjunction of its fields. A line `module _ (..) where`
 names what the definitions below it take first; on this page it stands over the first of them alone.
@@ -60,9 +60,9 @@ LINKS = (
             ("crates/cover_run/specs/Telling.antt", "Tells"),
         ),
         "From `found` to the files: what was read, as plain values, is what they give. `ReadsChecked` (of"
-        " `crates/cover_run/specs/Checking.antt`) reads the settings, the navigation file, the observation file and the log in"
-        " this order, each by `Named`, as `ReadsObs` does the third. `Files` are there the names that the words give, and in"
-        " `Found` the bytes under each name.",
+        " `crates/cover_run/specs/Checking.antt`) reads the settings, the navigation file, a station's file where the words name"
+        " one, the observation file and the log in this order, each by `Named`, as `ReadsObs` does the observation file."
+        " `Files` are there the names that the words give, and in `Found` the bytes under each name.",
         (
             ("crates/input_files/specs/Reading.antt", "Found"),
             ("crates/input_files/specs/Inputs.antt", "ReadsObs"),
@@ -85,12 +85,14 @@ LINKS = (
     (
         "The yes",
         "The line is `yes` and the number of boxes of an accepted log. Accepted is a fact on what was read: observations,"
-        " records, settings and log. Of satellites records and settings say what equations and bounds leave of each, those of"
-        " Galileo among them where the settings have its codes; `meaning_by` stands in link 9.",
+        " records, settings, a station's observations where there are some, and log. Of satellites records and settings say what"
+        " equations and bounds leave of each, those of Galileo among them where the settings have its codes; `meaning_by` stands"
+        " in link 9, and with a station `station_meaning` in link 12.",
         (
             ("crates/cover_run/specs/Checking.antt", "SaysAccepted"),
             ("crates/cover_run/specs/Checking.antt", "Accepts"),
             ("crates/cover_run/specs/Solving.antt", "meaning_of"),
+            ("crates/station_rows/specs/Stations.antt", "rows_meaning"),
             ("crates/sat_rows/specs/Sources.antt", "both_meaning"),
             ("crates/paving_log_check/specs/GpsChecked.antt", "IsFileAccepted"),
         ),
@@ -180,7 +182,7 @@ LINKS = (
             ("crates/cover_run/src/accepting.rt", "accepted"),
             ("crates/cover_run/specs/Accepting.antt", "SolvesThenChecks"),
         ),
-        "Its premises: the files are told, LOG is by name none of the three that are read, `solve` ended with `Done`, and `check`"
+        "Its premises: the files are told, LOG is by name none of those that are read, `solve` ended with `Done`, and `check`"
         " found the files as `solve` left them, by the same words and limits. Of files that can't tell their bytes nothing is"
         " said here either.",
         (("crates/cover_run/specs/Accepting.antt", "RunsThen", "AreApart"),),
@@ -221,6 +223,22 @@ LINKS = (
             ("crates/log_writer/specs/Pavings.antt", "HasBegun"),
             ("crates/log_writer/specs/Texts.antt", "IsBegun"),
         ),
+    ),
+    (
+        "Rows with a station",
+        "With the observations of a second receiver at a known place the values that fit are those of the difference: the"
+        " receiver's, with its corrected pseudorange less what the station's own values leave of its pseudorange. The declared"
+        " bounds are those of the receiver's error less the station's, and the clock offset is the receiver's less the station's.",
+        (
+            ("crates/station_epochs/specs/Stations.antt", "Station", "IsInTime", "IsStationEpoch"),
+            ("crates/station_rows/specs/Stations.antt", "station_meaning", "IsDifferenceAt"),
+            ("crates/station_rows/specs/Differences.antt", "CommonView", "AreDifferences", "IsDifferenceOf"),
+            ("crates/station_rows/specs/Differences.antt", "IsResidual"),
+        ),
+        "Two reasons more not to use a satellite are told behind those of the receiver alone.",
+        (("crates/station_rows/specs/Stations.antt", "IsJudgedByBoth", "LacksStation", "IsFarOff"),),
+        "The station's file is read by the grammar of the receiver's, its times have to rise, and it stands near the ground.",
+        (("crates/input_files/specs/Inputs.antt", "ReadsStation", "SpellsStation", "IsStationAt"),),
     ),
 )
 

@@ -4,7 +4,7 @@
 usage: python3 -m tools.mapped_day PROGRAM NAV [--half M] [--splits N] [--folder FOLDER]
 
 NAV is a navigation file of a whole day. The observation file has 2,880 epochs, one in 30 s, as long_day.py makes them. It
-is solved with pairs three times, with the same amounts straight up (bounds.py's own) and noise that doesn't grow:
+is solved with pairs three times, with the same amounts straight up (those of `gpslog bounds`) and noise that doesn't grow:
   one table  each satellite has the bounds between the elevations at which the day sees it
   24 tables  one an hour, each for the elevations of that hour
   one line   `zenith` and `vertical`, which gpscover maps by elevation at each point of the box and each epoch
@@ -17,7 +17,6 @@ wrong.
 import argparse
 import os
 import subprocess
-import sys
 import tempfile
 from pathlib import Path
 
@@ -28,7 +27,7 @@ from tools.long_day import BOUNDS, PLACE, holding, make_files
 from gpscover.region import region_of
 
 EPOCHS, STEP, HOUR = 2880, 30, 120
-SCRIPTS = Path(__file__).resolve().parent
+GPSLOG = Path(__file__).resolve().parents[1] / "gpslog"
 NO_GROWTH = ("--horizon", "1")
 
 
@@ -51,8 +50,8 @@ class Day:
         return subprocess.run(words, cwd=self.folder, check=True, capture_output=True, text=True).stdout
 
     def tables(self, *options):
-        """What bounds.py prints of the day."""
-        words = [sys.executable, SCRIPTS / "bounds.py", "coarse.log", *map(str, PLACE), "single", *NO_GROWTH, *options]
+        """What `gpslog bounds` prints of the day."""
+        words = [GPSLOG, "bounds", "coarse.log", *map(str, PLACE), "single", *NO_GROWTH, *options]
         return subprocess.run(words, cwd=self.folder, check=True, capture_output=True, text=True).stdout
 
     def solve(self, settings, log, *options, text=None):

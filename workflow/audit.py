@@ -19,7 +19,7 @@ import sys
 import tempfile
 from pathlib import Path
 
-from files import StepError, digest, unpack_all, unpacked
+from files import StepError, digest, unpack_all, unpack_one, unpacked
 
 ROOT = Path(__file__).resolve().parent.parent
 
@@ -45,33 +45,27 @@ def expect(path, wanted, what):
 def verdict_of(part, files, args, room):
     """What the second checker says of a part, whose files are those of the database."""
     station, day, number = part
-    for name, wanted, _ in [files["observations"], *files["navigation"]]:
+    beside = [files["beside"]] if "beside" in files else []
+    for name, wanted, _ in [files["observations"], *files["navigation"], *beside]:
         expect(name, wanted, name)
-    obs, nav = unpack_all(
-        files["observations"][0], [name for name, *_ in files["navigation"]], room
-    )
+    obs, nav = unpack_all(files["observations"][0], [name for name, *_ in files["navigation"]], room)
     settings = Path(args.settings or Path(args.logs).parent / "settings", station, f"{day}.toml")
     log = f"{room}/log"
     unpacked(Path(args.logs, station, day, f"{number}.log.zst"), log)
     for path, role in (obs, "obs"), (nav, "nav"), (settings, "settings"), (log, "log"):
         expect(path, files[role][1], f"{role} ({path})" if role == "settings" else role)
-    words = [
-        sys.executable,
-        ROOT / "second/recheck.py",
-        obs,
-        nav,
-        settings,
-        log,
-        *files["log"][0].split(),
-    ]
+    words = [sys.executable, ROOT / "second/recheck.py", obs, nav, settings, log]
+    words += files["log"][0].split()
+    for name, _, _ in beside:
+        unpack_one(name, f"{room}/station")
+        expect(f"{room}/station", files["station"][1], "station")
+        words += ["--station", f"{room}/station"]
     ended = subprocess.run(words, capture_output=True, text=True)
     return (ended.stdout or ended.stderr).strip()
 
 
 def main():
-    parser = argparse.ArgumentParser(
-        description="Checks a sample of a run's logs by the second checker."
-    )
+    parser = argparse.ArgumentParser(description="Checks a sample of a run's logs by the second checker.")
     parser.add_argument("database")
     parser.add_argument("logs")
     parser.add_argument("--sample", type=int, default=3)
@@ -79,9 +73,7 @@ def main():
     parser.add_argument("--settings")
     args = parser.parse_args()
     base = sqlite3.connect(f"file:{args.database}?mode=ro", uri=True)
-    parts = base.execute(
-        "SELECT station, day, part FROM files WHERE role = 'log' ORDER BY 1, 2, 3"
-    ).fetchall()
+    parts = base.execute("SELECT station, day, part FROM files WHERE role = 'log' ORDER BY 1, 2, 3").fetchall()
     wrong = 0
     for part in sorted(random.Random(args.seed).sample(parts, min(args.sample, len(parts)))):
         files = files_of(base, part)
@@ -92,10 +84,7 @@ def main():
                 said = f"{error}"
         is_same = said == files["log"][2]
         wrong += not is_same
-        print(
-            f"{part[0]} {part[1]} part {part[2]}: {said}"
-            + ("" if is_same else f", and not {files['log'][2]}")
-        )
+        print(f"{part[0]} {part[1]} part {part[2]}: {said}" + ("" if is_same else f", and not {files['log'][2]}"))
     return 1 if wrong else 0
 
 

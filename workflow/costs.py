@@ -34,13 +34,7 @@ def step_row(step, found):
     sums = [sum(it[key] for it in found) for key in ("wall_s", "program_s", "own_s")]
     peaks = [max(it[key] for it in found) for key in ("program_mb", "own_mb")]
     written = sum(it["bytes"].get(WRITTEN[step], 0) for it in found)
-    return [
-        step,
-        f"{len(found):,}",
-        *(f"{it:.1f}" for it in sums),
-        *(f"{it:.0f}" for it in peaks),
-        f"{written:,}",
-    ]
+    return [step, f"{len(found):,}", *(f"{it:.1f}" for it in sums), *(f"{it:.0f}" for it in peaks), f"{written:,}"]
 
 
 def main():
@@ -54,11 +48,7 @@ def main():
         it = json.loads(path.read_text(encoding="utf-8"))
         found[it["step"]].append(it)
     head = ["step", "done", "clock s", "program s", "own s", "program MB", "own MB", "bytes"]
-    for cells in (
-        head,
-        ["---"] * len(head),
-        *(step_row(step, its) for step, its in found.items() if its),
-    ):
+    for cells in (head, ["---"] * len(head), *(step_row(step, its) for step, its in found.items() if its)):
         print("| " + " | ".join(cells) + " |")
     if args.wall:
         work = sum(it["wall_s"] for step in ("solve", "check") for it in found[step])

@@ -51,9 +51,7 @@ def last_line(text: str) -> str:
     return lines[-1] if lines else "without a word"
 
 
-def run(
-    words: Sequence[str | Path], what: str | Path, **streams: Any
-) -> subprocess.CompletedProcess[bytes]:
+def run(words: Sequence[str | Path], what: str | Path, **streams: Any) -> subprocess.CompletedProcess[bytes]:
     """Runs a program to its end. StepError with its own last word where the status isn't 0."""
     try:
         ended = subprocess.run(words, stderr=subprocess.PIPE, **streams)

@@ -43,14 +43,13 @@ class Station:
     settings: str
     place: tuple  # x, y, z in mm, or None
     bounds: str  # words of `gpslog bounds` behind the place, or an empty text
+    beside: str  # which other one is its station, for rows of differences, or an empty text
 
 
 def date_of(value, key):
     """A date of the configuration."""
     try:
-        return (
-            value if isinstance(value, datetime.date) else datetime.date.fromisoformat(str(value))
-        )
+        return value if isinstance(value, datetime.date) else datetime.date.fromisoformat(str(value))
     except ValueError:
         raise ConfigError(f"{key}: {value!r} is no date, as 2024-01-31") from None
 
@@ -87,11 +86,7 @@ def place_of(value, key):
     """A place in metres as whole mm, or None where there is none."""
     if value is None:
         return None
-    if (
-        not isinstance(value, list)
-        or len(value) != 3
-        or not all(isinstance(at, (int, float)) for at in value)
-    ):
+    if not isinstance(value, list) or len(value) != 3 or not all(isinstance(at, (int, float)) for at in value):
         raise ConfigError(f"{key}: [x, y, z] in metres is needed, not {value!r}")
     return tuple(round(at * 1000) for at in value)
 
@@ -113,6 +108,7 @@ def station_of(name, own, common):
         value["settings"],
         place_of(value.get("place"), f"{name}: place"),
         value.get("bounds", ""),
+        value.get("beside", ""),
     )
 
 
@@ -122,9 +118,7 @@ class Network:
     def __init__(self, config):
         if not isinstance(config.get("stations"), dict) or not config["stations"]:
             raise ConfigError("stations: a table of them is needed")
-        common = {
-            key: value for key, value in config.items() if key in Station.__dataclass_fields__
-        }
+        common = {key: value for key, value in config.items() if key in Station.__dataclass_fields__}
         names = sorted(config["stations"])
         self.stations = {name: station_of(name, config["stations"][name], common) for name in names}
         self.out = str(config.get("out", "network"))
@@ -135,6 +129,10 @@ class Network:
         self.costs = {**COSTS, **(config.get("costs") or {})}
         self.parts = range(1, -(-self.epochs // self.part) + 1)
         for name, station in self.stations.items():
+            if station.beside and (station.beside not in self.stations or station.beside == name):
+                raise ConfigError(f"{name}: beside: {station.beside!r} is no other station")
+            if station.beside and station.bounds:
+                raise ConfigError(f"{name}: bounds: those of differences stand in the settings")
             for pattern in (station.observations, *station.navigation, station.settings):
                 self.named(pattern, name, f"{station.days[0]}")
 
@@ -144,13 +142,21 @@ class Network:
         try:
             return pattern.format(station=station, day=date, before=date - step, after=date + step)
         except (KeyError, IndexError, ValueError) as error:
-            raise ConfigError(
-                f"{station}: the pattern {pattern!r} can't be filled: {error}"
-            ) from None
+            raise ConfigError(f"{station}: the pattern {pattern!r} can't be filled: {error}") from None
 
     def observations(self, station, day):
         """The name of the day's observation file."""
         return self.named(self.stations[station].observations, station, day)
+
+    def beside(self, station, day):
+        """The name of the day's observation file of the station's own station, or an empty text."""
+        name = self.stations[station].beside
+        return self.observations(name, day) if name else ""
+
+    def beside_place(self, station):
+        """Where that one is in mm, or None."""
+        name = self.stations[station].beside
+        return self.stations[name].place if name else None
 
     def navigation(self, station, day):
         """The names of the day's navigation files; the header of the first is taken."""
@@ -162,28 +168,21 @@ class Network:
 
     def there(self, station, day):
         """Which of the day's files are there: a change of one is seen, a missing one fails its jobs alone."""
-        names = [self.observations(station, day), *self.navigation(station, day)]
+        names = [self.observations(station, day), self.beside(station, day)]
+        names += self.navigation(station, day)
         return [name for name in names if os.path.exists(name)]
 
     def station_days(self):
         """The pairs of station and day that are worked on."""
         for station in self.stations.values():
             for day in station.days:
-                if not self.leaves_absent or os.path.exists(
-                    self.observations(station.name, f"{day}")
-                ):
+                if not self.leaves_absent or os.path.exists(self.observations(station.name, f"{day}")):
                     yield station.name, f"{day}"
 
     def absent(self):
         """The pairs that are left out, since they have no observation file."""
-        wanted = [
-            (station.name, f"{day}") for station in self.stations.values() for day in station.days
-        ]
-        return (
-            [pair for pair in wanted if pair not in set(self.station_days())]
-            if self.leaves_absent
-            else []
-        )
+        wanted = [(station.name, f"{day}") for station in self.stations.values() for day in station.days]
+        return [pair for pair in wanted if pair not in set(self.station_days())] if self.leaves_absent else []
 
     def options(self, part):
         """The options of `solve` and `check` for a part. The last part has no end, so that no epoch is left out."""

@@ -25,17 +25,7 @@ from string import Template
 from gpscover import summary
 import tables
 from gpscover.errors import Error
-from files import (
-    StepError,
-    digest,
-    last_line,
-    read_json,
-    run,
-    settle,
-    unpack_all,
-    unpacked,
-    write_json,
-)
+from files import StepError, digest, last_line, read_json, run, settle, unpack_all, unpack_one, unpacked, write_json
 from network import COSTS, told
 
 ROOT = Path(__file__).resolve().parent.parent
@@ -46,32 +36,31 @@ BOUNDS_HEAD = "[bounds]"
 
 
 def unpack(args, room):
-    """Unpacks the files of a part, and notes what they were made of."""
+    """Unpacks the files of a part, and notes what they were made of. Without a station its file is empty."""
     obs, nav = unpack_all(args.file["observations"], args.words, room)
-    names = [
-        ("observations", args.file["observations"]),
-        *(("navigation", name) for name in args.words),
-    ]
-    write_json(
-        f"{room}/sources", [{"role": role, "name": name, **digest(name)} for role, name in names]
-    )
+    names = [("observations", args.file["observations"]), *(("navigation", name) for name in args.words)]
+    Path(f"{room}/station").touch()
+    if args.file["beside"]:
+        unpack_one(args.file["beside"], f"{room}/station")
+        names.append(("beside", args.file["beside"]))
+    write_json(f"{room}/sources", [{"role": role, "name": name, **digest(name)} for role, name in names])
     settle(obs, args.file["obs"])
     settle(nav, args.file["nav"])
+    settle(f"{room}/station", args.file["station"])
     settle(f"{room}/sources", args.file["sources"])
 
 
 # ---- settings
 
 
-def filled(path, place):
-    """The settings of a template: `$centre` is the station's place in mm."""
+def filled(path, place, beside):
+    """The settings of a template: `$centre` is the station's place in mm, `$station` that of its station."""
     text = Path(path).read_text(encoding="utf-8")
+    places = {"centre": place, "station": beside}
     try:
-        return Template(text).substitute({"centre": list(place)} if place else {})
+        return Template(text).substitute({key: list(at) for key, at in places.items() if at})
     except (KeyError, ValueError) as error:
-        raise StepError(
-            f"{path}: {error} can't be filled: does the station have a place?"
-        ) from None
+        raise StepError(f"{path}: {error} can't be filled: does the station have a place?") from None
 
 
 def by_elevation(args, text, place, room):
@@ -79,23 +68,13 @@ def by_elevation(args, text, place, room):
     head, found, _ = text.partition(BOUNDS_HEAD)
     if not found or place is None:
         raise StepError("bounds: the template needs a line [bounds], and the station a place")
-    first = "\n".join(
-        "bisections = 0" if it.startswith("bisections") else it for it in text.splitlines()
-    )
+    first = "\n".join("bisections = 0" if it.startswith("bisections") else it for it in text.splitlines())
     Path(f"{room}/first").write_text(first + "\n", encoding="utf-8")
     obs, nav = unpack_all(args.file["observations"], args.words, room)
     words = [args.program, "solve", obs, nav, f"{room}/first", f"{room}/log"]
     run(words, "a first look", stdout=subprocess.DEVNULL)
     metres = [f"{at / 1000:.3f}" for at in place]
-    words = [
-        sys.executable,
-        "-m",
-        "gpscover",
-        "bounds",
-        f"{room}/log",
-        *metres,
-        *args.bounds.split(),
-    ]
+    words = [sys.executable, "-m", "gpscover", "bounds", f"{room}/log", *metres, *args.bounds.split()]
     return head + run(words, "bounds", stdout=subprocess.PIPE).stdout.decode()
 
 
@@ -103,8 +82,8 @@ def settings(args, room):
     """The settings of a day: those of the station, or a template with its place and its bounds by elevation."""
     if not os.path.exists(args.file["template"]):
         raise StepError(f"{args.file['template']} isn't there")
-    place = tuple(map(int, args.place.split(","))) if args.place else None
-    text = filled(args.file["template"], place)
+    place, beside = (tuple(map(int, it.split(","))) if it else None for it in (args.place, args.beside))
+    text = filled(args.file["template"], place, beside)
     if args.bounds:
         text = by_elevation(args, text, place, room)
     Path(f"{room}/settings").write_text(text, encoding="utf-8")
@@ -121,10 +100,16 @@ def program_of(args):
     return args.program
 
 
+def station_words(args):
+    """The words that name the station's file, where there is one."""
+    path = args.file["station"]
+    return ["--station", path] if os.path.getsize(path) else []
+
+
 def solve(args, room):
     """Solves the epochs of a part. The report is left out: the log has all of it."""
     files = [args.file[key] for key in ("obs", "nav", "settings")]
-    words = [program_of(args), "solve", *files, f"{room}/log", *args.words]
+    words = [program_of(args), "solve", *files, f"{room}/log", *args.words, *station_words(args)]
     run(words, "solve", stdout=subprocess.DEVNULL)
     settle(f"{room}/log", args.file["log"])
 
@@ -149,9 +134,10 @@ def put_aside(args, verdict):
 
 def check(args, room):
     """Checks a log with the options that it was solved with, and notes verdict and checksums."""
-    keys = ("obs", "nav", "settings", "log")
+    more = station_words(args)
+    keys = ("obs", "nav", "settings", "log") + (("station",) if more else ())
     files = {key: digest(args.file[key]) for key in keys}
-    words = [program_of(args), "check", *(args.file[key] for key in keys), *args.words]
+    words = [program_of(args), "check", *(args.file[key] for key in keys[:4]), *args.words, *more]
     ended = subprocess.run(words, capture_output=True, text=True)
     said = last_line(ended.stdout or ended.stderr)
     if ended.returncode == 1 or ended.returncode == 3 and said.startswith("log "):
@@ -160,18 +146,10 @@ def check(args, room):
         raise StepError(f"check: status {ended.returncode}, {said}")
     if files != {key: digest(args.file[key]) for key in keys}:
         put_aside(args, "a file has changed while it was checked")
-    value = {
-        "station": args.station,
-        "day": args.day,
-        "part": int(args.part),
-        "options": " ".join(args.words),
-    }
+    value = {"station": args.station, "day": args.day, "part": int(args.part), "options": " ".join(args.words)}
     program = {"sha256": digest(args.program)["sha256"], "commit": commit()}
     sources = read_json(args.file["sources"])
-    write_json(
-        f"{room}/verdict",
-        {**value, "verdict": said, "files": files, "sources": sources, "program": program},
-    )
+    write_json(f"{room}/verdict", {**value, "verdict": said, "files": files, "sources": sources, "program": program})
     settle(f"{room}/verdict", args.file["verdict"])
 
 
@@ -192,10 +170,7 @@ def rows(args, room):
     """A line an epoch of a checked log. A log that isn't the checked one is put aside, so that it is made again."""
     args.file["log"] = args.file["zst"]
     try:
-        is_checked = (
-            unpacked(args.file["zst"], f"{room}/log")
-            == read_json(args.file["verdict"])["files"]["log"]
-        )
+        is_checked = unpacked(args.file["zst"], f"{room}/log") == read_json(args.file["verdict"])["files"]["log"]
     except StepError as error:
         put_aside(args, f"{error}")
     if not is_checked:
@@ -204,9 +179,7 @@ def rows(args, room):
         table = csv.writer(file, lineterminator="\n")
         table.writerow(tables.ROW_HEAD)
         head = [args.station, args.day, args.part]
-        summary.summarize(
-            f"{room}/log", lambda *epoch: table.writerow(head + summary.csv_line(*epoch[:3]))
-        )
+        summary.summarize(f"{room}/log", lambda *epoch: table.writerow(head + summary.csv_line(*epoch[:3])))
     settle(f"{room}/csv", args.file["csv"])
 
 
@@ -250,13 +223,7 @@ def page(args, room):
 
 def note_of(args):
     """The note of a step."""
-    return Path(
-        args.out,
-        "notes",
-        args.station or "run",
-        args.day or "",
-        f"{args.part or 'day'}.{args.step}",
-    )
+    return Path(args.out, "notes", args.station or "run", args.day or "", f"{args.part or 'day'}.{args.step}")
 
 
 def own_peak():
@@ -267,9 +234,7 @@ def own_peak():
 
 def costs(args, began):
     """Notes in OUT/costs what the step took, itself and the programs that it called. No table has it."""
-    child, own = (
-        resource.getrusage(who) for who in (resource.RUSAGE_CHILDREN, resource.RUSAGE_SELF)
-    )
+    child, own = (resource.getrusage(who) for who in (resource.RUSAGE_CHILDREN, resource.RUSAGE_SELF))
     line = {
         "step": args.step,
         "wall_s": round(time.time() - began, 3),
@@ -277,17 +242,9 @@ def costs(args, began):
         "own_s": round(own.ru_utime + own.ru_stime, 3),
         "program_mb": round(child.ru_maxrss / 1024, 1),
         "own_mb": round(own_peak() / 1024, 1),
-        "bytes": {
-            key: os.path.getsize(path) for key, path in args.file.items() if os.path.isfile(path)
-        },
+        "bytes": {key: os.path.getsize(path) for key, path in args.file.items() if os.path.isfile(path)},
     }
-    path = Path(
-        args.out,
-        "costs",
-        args.station or "run",
-        args.day or "",
-        f"{args.part or 'day'}.{args.step}.json",
-    )
+    path = Path(args.out, "costs", args.station or "run", args.day or "", f"{args.part or 'day'}.{args.step}.json")
     path.parent.mkdir(parents=True, exist_ok=True)
     write_json(path, line)
 
@@ -302,6 +259,7 @@ def arguments():
     parser.add_argument("--part", default="")
     parser.add_argument("--program", default="")
     parser.add_argument("--place", default="")
+    parser.add_argument("--beside", default="")
     parser.add_argument("--bounds", default="")
     parser.add_argument("--epochs", type=int, default=0)
     parser.add_argument("--name", nargs="+", default=[], metavar="KEY=FILE")
@@ -326,9 +284,7 @@ def perform(args):
 def main():
     args, began = arguments(), time.time()
     note, name = note_of(args), told(args.station, args.day, args.part)
-    with contextlib.suppress(
-        OSError
-    ):  # a full disk has no room for a note either; the step says so by itself
+    with contextlib.suppress(OSError):  # a full disk has no room for a note either; the step says so by itself
         note.parent.mkdir(parents=True, exist_ok=True)
         note.write_text("")
     try:

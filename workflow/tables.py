@@ -2,7 +2,8 @@
 
 epochs  a line an epoch, as `gpslog summary --csv` has it, with station, day and part
 files   the files of each part with size, checksum, and what was said of them:
-        role observations, navigation (as they were given), obs, nav, settings (as the program read them), log
+        role observations, navigation, beside (as they were given), obs, nav, station, settings (as the program
+        read them), log; beside and station only where there is a station beside the receiver
 absent  days that were left out since they have no observation file
 """
 import csv
@@ -18,7 +19,7 @@ ROW_HEAD = ["station", "day", "part", *summary.COLUMNS]
 WHOLE = {"part", "epoch", "satellites", "in", "edge", "out", "splits"}
 TEXT = {"station", "day", "gps_time", "mark", "faces"}
 FILES = "station day part role name bytes sha256 verdict program commit_id".split()
-ROLES = ("obs", "nav", "settings", "log")
+ROLES = ("obs", "nav", "station", "settings", "log")
 HOURS = range(24)
 
 
@@ -33,9 +34,7 @@ def kind(column):
 def create(base):
     """The empty tables."""
     columns = ", ".join(f'"{column}" {kind(column)}' for column in ROW_HEAD)
-    base.execute(
-        f"CREATE TABLE epochs ({columns}, PRIMARY KEY (station, day, epoch)) WITHOUT ROWID"
-    )
+    base.execute(f"CREATE TABLE epochs ({columns}, PRIMARY KEY (station, day, epoch)) WITHOUT ROWID")
     base.execute(f"CREATE TABLE files ({', '.join(FILES)})")
     base.execute("CREATE TABLE absent (station TEXT, day TEXT)")
 
@@ -58,18 +57,11 @@ def file_rows(path):
     for it in value["sources"]:
         yield [*head, it["role"], it["name"], it["bytes"], it["sha256"], "", "", ""]
     for role in ROLES:
-        it = value["files"][role]
-        said = (
-            [value["verdict"], program["sha256"], program["commit"]] if role == "log" else [""] * 3
-        )
-        yield [
-            *head,
-            role,
-            value["options"] if role == "log" else "",
-            it["bytes"],
-            it["sha256"],
-            *said,
-        ]
+        it = value["files"].get(role)
+        if it is None:  # a receiver without a station
+            continue
+        said = [value["verdict"], program["sha256"], program["commit"]] if role == "log" else [""] * 3
+        yield [*head, role, value["options"] if role == "log" else "", it["bytes"], it["sha256"], *said]
 
 
 def make_database(args, path):
@@ -81,10 +73,7 @@ def make_database(args, path):
     create(base)
     holes, file_holes = ", ".join("?" * len(ROW_HEAD)), ", ".join("?" * len(FILES))
     for station, day in listed["days"]:
-        base.executemany(
-            f"INSERT INTO epochs VALUES ({holes})",
-            epoch_rows(f"{args.out}/days/{station}/{day}.csv"),
-        )
+        base.executemany(f"INSERT INTO epochs VALUES ({holes})", epoch_rows(f"{args.out}/days/{station}/{day}.csv"))
         for part in range(1, listed["parts"] + 1):
             verdict = f"{args.out}/verdicts/{station}/{day}/{part}.json"
             base.executemany(f"INSERT INTO files VALUES ({file_holes})", file_rows(verdict))
@@ -112,16 +101,12 @@ def share_class(share):
 
 def cell(text, mark=""):
     """A cell of a table."""
-    return (
-        f'<td class="{mark}">{html.escape(text)}</td>' if mark else f"<td>{html.escape(text)}</td>"
-    )
+    return f'<td class="{mark}">{html.escape(text)}</td>' if mark else f"<td>{html.escape(text)}</td>"
 
 
 def table(caption, head, lines):
     """A table; the first of each line is its head."""
-    rows = "".join(
-        f"<tr><th>{html.escape(first)}</th>{''.join(cells)}</tr>\n" for first, *cells in lines
-    )
+    rows = "".join(f"<tr><th>{html.escape(first)}</th>{''.join(cells)}</tr>\n" for first, *cells in lines)
     heads = "".join(f"<th>{html.escape(word)}</th>" for word in head)
     return f"<table><caption>{html.escape(caption)}</caption>\n<tr>{heads}</tr>\n{rows}</table>\n"
 
@@ -147,9 +132,7 @@ class Found:
 
 def extent_text(extents):
     """The median extents to east, north and up in m."""
-    return (
-        " × ".join(f"{statistics.median(axis):.1f}" for axis in zip(*extents)) if extents else "–"
-    )
+    return " × ".join(f"{statistics.median(axis):.1f}" for axis in zip(*extents)) if extents else "–"
 
 
 def page(path, expected):
@@ -161,12 +144,7 @@ def page(path, expected):
             "SELECT station FROM epochs UNION SELECT station FROM files UNION SELECT station FROM absent ORDER BY station"
         )
     ]
-    days = [
-        day
-        for (day,) in base.execute(
-            "SELECT day FROM files UNION SELECT day FROM absent ORDER BY day"
-        )
-    ]
+    days = [day for (day,) in base.execute("SELECT day FROM files UNION SELECT day FROM absent ORDER BY day")]
     given = set(base.execute("SELECT DISTINCT station, day FROM files"))
     gone = set(base.execute("SELECT station, day FROM absent"))
     sums, shares, hours = [], [], []
@@ -174,42 +152,19 @@ def page(path, expected):
         found = Found(base, name)
         whole = found.all_extents()
         most = " × ".join(f"{max(axis):.1f}" for axis in zip(*whole)) if whole else "–"
-        counts = [
-            sum(found.marks.values()),
-            len(whole),
-            *(found.marks[it] for it in ("reaches", "few", "empty")),
-        ]
-        sums.append(
-            [name, *map(cell, [*(f"{count:,}" for count in counts), extent_text(whole), most])]
-        )
-        shares.append(
-            [name, *(availability(name, day, found, given, gone, expected) for day in days)]
-        )
+        counts = [sum(found.marks.values()), len(whole), *(found.marks[it] for it in ("reaches", "few", "empty"))]
+        sums.append([name, *map(cell, [*(f"{count:,}" for count in counts), extent_text(whole), most])])
+        shares.append([name, *(availability(name, day, found, given, gone, expected) for day in days)])
         hours.append([name, *(cell(extent_text(found.extents[hour])) for hour in HOURS)])
     base.close()
-    head = [
-        "station",
-        "epochs",
-        "with a region",
-        "reach the box",
-        "few",
-        "empty",
-        "median E × N × U m",
-        "greatest",
-    ]
+    head = ["station", "epochs", "with a region", "reach the box", "few", "empty", "median E × N × U m", "greatest"]
     return (
         '<!DOCTYPE html>\n<html lang="en"><meta charset="utf-8"><title>Regions of the network</title>\n'
         f"<style>{STYLE}</style>\n"
         f"<h1>Regions of the network</h1>\n<p>{INTRO}</p>\n"
         + table("All days", head, sums)
-        + table(
-            f"Availability: epochs with a region, of {expected:,} a day", ["station", *days], shares
-        )
-        + table(
-            "Median extents E × N × U in m, by the hour of GPS time",
-            ["station", *map(str, HOURS)],
-            hours,
-        )
+        + table(f"Availability: epochs with a region, of {expected:,} a day", ["station", *days], shares)
+        + table("Median extents E × N × U in m, by the hour of GPS time", ["station", *map(str, HOURS)], hours)
         + "</html>\n"
     )
 

@@ -25,6 +25,7 @@ from tools.made import made_network
 
 HERE = Path(__file__).resolve().parent
 ROOT = HERE.parent
+STATION = ROOT / "examples/station"
 TABLES = ("network.sqlite", "network.html", "days/GEON/2005-04-02.csv", "days/UBX0/2008-05-26.csv")
 PARTS = ("GEON/2005-04-02/1", "GEON/2005-04-02/2", "UBX0/2008-05-26/1", "UBX0/2008-05-26/2")
 LATEST = 120  # seconds that a run may take
@@ -111,7 +112,7 @@ class Room:
         data.mkdir()
         for name, obs, nav in (
             ("UBX02008147", ROOT / "examples/receiver.obs", ROOT / "examples/receiver.nav"),
-            ("GEON2005092", HERE / "recorded/station.obs", HERE / "recorded/station.nav"),
+            ("GEON2005092", STATION / "receiver.obs", STATION / "receiver.nav"),
         ):
             (data / f"{name}.obs.gz").write_bytes(gzip.compress(obs.read_bytes(), mtime=0))
             shutil.copy(nav, data / f"brdc{name[4:]}.nav")
@@ -139,11 +140,7 @@ class Room:
         """Begins a run, whose words go to the file `said`."""
         with open(self.path / "said", "wb") as said:
             return subprocess.Popen(
-                self.words(*more, **ways),
-                cwd=self.path,
-                stdout=said,
-                stderr=subprocess.STDOUT,
-                start_new_session=True,
+                self.words(*more, **ways), cwd=self.path, stdout=said, stderr=subprocess.STDOUT, start_new_session=True
             )
 
     def said(self):
@@ -187,17 +184,12 @@ class Room:
 
     def tables(self):
         """The bytes of the tables, or None where one isn't there."""
-        return {
-            name: (self.out / name).read_bytes() if (self.out / name).exists() else None
-            for name in TABLES
-        }
+        return {name: (self.out / name).read_bytes() if (self.out / name).exists() else None for name in TABLES}
 
     def verdicts(self):
         """The parts that have a verdict."""
         found = (self.out / "verdicts").glob("*/*/*.json")
-        return sorted(
-            str(path.relative_to(self.out / "verdicts"))[: -len(".json")] for path in found
-        )
+        return sorted(str(path.relative_to(self.out / "verdicts"))[: -len(".json")] for path in found)
 
     def remove(self):
         """Removes the folder."""
@@ -257,29 +249,18 @@ class TestWhole(Base):
         with tempfile.NamedTemporaryFile() as file:
             Path(file.name).write_bytes(self.whole["network.sqlite"])
             base = sqlite3.connect(file.name)
-            epochs = base.execute(
-                "SELECT station, part, epoch, satellites, mark FROM epochs"
-            ).fetchall()
+            epochs = base.execute("SELECT station, part, epoch, satellites, mark FROM epochs").fetchall()
             # Two parts of two epochs each; the satellites of the first are 8 and 9, as the files have them.
-            wanted = [
-                (station, (k + 1) // 2, k) for station in ("GEON", "UBX0") for k in range(1, 5)
-            ]
+            wanted = [(station, (k + 1) // 2, k) for station in ("GEON", "UBX0") for k in range(1, 5)]
             assert [row[:3] for row in epochs] == wanted
-            assert {row[:1] + row[3:4] for row in epochs if row[2] == 1} == {
-                ("GEON", 8),
-                ("UBX0", 9),
-            }
-            said = base.execute(
-                "SELECT name, verdict LIKE 'yes %' FROM files WHERE role = 'log'"
-            ).fetchall()
+            assert {row[:1] + row[3:4] for row in epochs if row[2] == 1} == {("GEON", 8), ("UBX0", 9)}
+            said = base.execute("SELECT name, verdict LIKE 'yes %' FROM files WHERE role = 'log'").fetchall()
             assert said == [("--from 1 --to 2", 1), ("--from 3", 1)] * 2
             base.close()
 
     def test_other_ways_of_a_configuration(self):
         config = self.room.configuration().replace("[2008-05-26]", "[2008-05-26, 2008-05-27]")
-        config = config.replace(
-            "settings: data/single.toml", 'settings: data/single.toml, bounds: "single --zenith"'
-        )
+        config = config.replace("settings: data/single.toml", 'settings: data/single.toml, bounds: "single --zenith"')
         self.room.configure(config + "absent: leave\nkeep: checksum\n")
         assert self.room.run() == 0, self.room.said()
         assert "gpscover: UBX0 2008-05-27: no observation file, left out" in self.room.said()
@@ -296,19 +277,47 @@ class TestWhole(Base):
         assert re.search(r"G26 = \[.*\]  # 5\.\d to 5\.\d degrees", text)
         assert text.count("[bounds]") == 1
 
+    def test_a_station_beside_a_receiver(self):
+        data = self.room.path / "data"
+        observations = (STATION / "station.obs").read_bytes()
+        (data / "STAT2005092.obs.gz").write_bytes(gzip.compress(observations, mtime=0))
+        text = (STATION / "settings.toml").read_text()
+        for key, value in (("centre", "$centre"), ("place", "$station"), ("bisections", "16")):
+            text = re.sub(f"(?m)^{key} = .*", f"{key} = {value}", text)
+        (data / "pair.toml").write_text(text)
+        config = self.room.configuration().replace("settings: data/dual.toml", "beside: STAT, settings: data/pair.toml")
+        place = "[-3978241.958, 3382840.234, 3649900.853]"
+        self.room.configure(f"{config}  STAT: {{days: [2005-04-02], settings: data/dual.toml, place: {place}}}\n")
+        assert self.room.run() == 0, self.room.said()
+        base = sqlite3.connect(self.room.out / "network.sqlite")
+        words = "SELECT station, role FROM files WHERE role IN ('beside', 'station')"
+        assert sorted(base.execute(words)) == [("GEON", "beside")] * 2 + [("GEON", "station")] * 2
+        widest = "SELECT max(up_m) FROM epochs WHERE station = 'GEON'"
+        assert base.execute(widest).fetchone()[0] < 60
+        base.close()
+        assert (
+            "place = [-3978241958, 3382840234, 3649900853]\n"
+            in (self.room.out / "settings/GEON/2005-04-02.toml").read_text()
+        )
+        words = [sys.executable, HERE / "audit.py", "out/network.sqlite", "out/logs", "--sample", "9"]
+        ran = subprocess.run(words, cwd=self.room.path, capture_output=True, text=True)
+        assert (ran.returncode, ran.stdout.count(": yes ")) == (0, 6), ran.stdout + ran.stderr
+
     def test_a_wrong_configuration(self):
         config = self.room.configuration()
         for wrong, said in (
-            (
-                config.replace("part: 2", "part: 0"),
-                "part: a whole number from 1 to 200000 is needed, not 0",
-            ),
-            (
-                config.replace("{day:%Y%j}.nav", "{date}.nav"),
-                "the pattern 'data/brdc{date}.nav' can't be filled",
-            ),
+            (config.replace("part: 2", "part: 0"), "part: a whole number from 1 to 200000 is needed, not 0"),
+            (config.replace("{day:%Y%j}.nav", "{date}.nav"), "the pattern 'data/brdc{date}.nav' can't be filled"),
             (config.replace("[2008-05-26]", "[26.5.2008]"), "UBX0: days: '26.5.2008' is no date"),
             (config.replace("settings: data/single.toml, ", ""), "stations: UBX0 has no settings"),
+            (
+                config.replace("settings: data/single", "beside: SOME, settings: data/single"),
+                "UBX0: beside: 'SOME' is no other station",
+            ),
+            (
+                config.replace("settings: data/single", "beside: GEON, bounds: x, settings: data/single"),
+                "UBX0: bounds: those of differences stand in the settings",
+            ),
         ):
             self.room.configure(wrong)
             assert self.room.run() != 0
@@ -345,9 +354,7 @@ class TestKilled(Base):
         """One line is of the part, the other parts have verdicts, and the table of the other day is there."""
         assert self.room.lines() == [wanted]
         assert self.room.verdicts() == [part for part in PARTS if part != PARTS[1]]
-        assert [name for name, table in self.room.tables().items() if table is not None] == [
-            TABLES[3]
-        ]
+        assert [name for name, table in self.room.tables().items() if table is not None] == [TABLES[3]]
         (self.room.path / "held").unlink()
 
 
@@ -373,9 +380,7 @@ class TestChanged(Base):
         path = self.room.path / "data/GEON2005092.obs.gz"
         whole = path.read_bytes()
         text = gzip.decompress(whole).decode()
-        path.write_bytes(
-            gzip.compress(text.replace("G03  24767686.375", "G03  24767687.375").encode(), mtime=0)
-        )
+        path.write_bytes(gzip.compress(text.replace("G03  24767686.375", "G03  24767687.375").encode(), mtime=0))
         assert self.room.run() == 0, self.room.said()
         assert steps_of(self.room.said()).count("solve") == 2
         assert self.room.tables()["network.sqlite"] != self.whole["network.sqlite"]
@@ -397,10 +402,7 @@ class TestMissing(Base):
         whole = path.read_bytes()
         path.unlink()
         assert self.room.run() == 1
-        lines = [
-            f"UBX0 2008-05-26 part {part}: unpack: data/brdc2008147.nav isn't there"
-            for part in (1, 2)
-        ]
+        lines = [f"UBX0 2008-05-26 part {part}: unpack: data/brdc2008147.nav isn't there" for part in (1, 2)]
         assert self.room.lines() == lines
         assert self.room.tables()[TABLES[2]] == self.whole[TABLES[2]]
         path.write_bytes(whole)
@@ -411,12 +413,8 @@ class TestMissing(Base):
         path.write_bytes(gzip.compress(head + gzip.decompress(whole), mtime=0))
         if shutil.which("crx2rnx") is None and shutil.which("CRX2RNX") is None:
             assert self.room.run() == 1
-            why = (
-                "data/GEON2005092.obs.gz has Hatanaka's compression, and crx2rnx isn't on the path"
-            )
-            assert [line.split(":")[1:3] for line in self.room.lines()] == [
-                [" unpack", f" {why}"]
-            ] * 2
+            why = "data/GEON2005092.obs.gz has Hatanaka's compression, and crx2rnx isn't on the path"
+            assert [line.split(":")[1:3] for line in self.room.lines()] == [[" unpack", f" {why}"]] * 2
         # In its place one that takes off the line above.
         tools = self.room.path / "tools"
         tools.mkdir()
@@ -473,9 +471,7 @@ class TestMade:
 
     def holds(self, epoch, place):
         """Whether a box of the epoch has the place in um."""
-        return any(
-            all(it.box[k] <= place[k] <= it.box[k + 3] for k in range(3)) for it in epoch.kept
-        )
+        return any(all(it.box[k] <= place[k] <= it.box[k + 3] for k in range(3)) for it in epoch.kept)
 
 
 # ---- on a Slurm
@@ -490,9 +486,7 @@ def variable(pid, name):
 class TestOnSlurm(Base):
     @pytest.fixture(autouse=True)
     def quick_questions(self, monkeypatch):
-        monkeypatch.setenv(
-            "CI", "true"
-        )  # Snakemake then asks once a second how jobs are, in place of every ten
+        monkeypatch.setenv("CI", "true")  # Snakemake then asks once a second how jobs are, in place of every ten
 
     def run_with(self, part, disturb):
         """Begins a run on Slurm, disturbs it while a part's program waits, lets it go on, and waits for its end."""

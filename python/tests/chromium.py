@@ -66,9 +66,7 @@ class Browser:
         """Keeps what the logs say of errors and of the network."""
         errors = [it["message"] for it in self.driver.get_log("browser") if it["level"] == "SEVERE"]
         self.faults += errors
-        messages = [
-            json.loads(it["message"])["message"] for it in self.driver.get_log("performance")
-        ]
+        messages = [json.loads(it["message"])["message"] for it in self.driver.get_log("performance")]
         sent = [it["params"] for it in messages if it["method"] == "Network.requestWillBeSent"]
         self.requests += [it["request"]["url"] for it in sent]
 
@@ -80,9 +78,7 @@ class Browser:
 
     def run(self, script):
         """The value of a JavaScript expression on the page; a promise is waited for."""
-        done = (
-            "const done = arguments[0]; Promise.resolve(eval(%s)).then((it) => done([it ?? null]))"
-        )
+        done = "const done = arguments[0]; Promise.resolve(eval(%s)).then((it) => done([it ?? null]))"
         (value,) = self.driver.execute_async_script(done % json.dumps(script))
         self.note()
         return value
@@ -95,11 +91,7 @@ class Browser:
 
     def click(self, x, y):
         """Clicks at a point of the window."""
-        for kind, button in (
-            ("mouseMoved", "none"),
-            ("mousePressed", "left"),
-            ("mouseReleased", "left"),
-        ):
+        for kind, button in (("mouseMoved", "none"), ("mousePressed", "left"), ("mouseReleased", "left")):
             at = {"type": kind, "x": x, "y": y, "button": button, "clickCount": 1}
             self.ask("Input.dispatchMouseEvent", **at)
 
@@ -111,6 +103,4 @@ class Browser:
             size = self.ask("Page.getLayoutMetrics")["cssContentSize"]
             ends = {"x": 0, "y": 0, "width": size["width"], "height": size["height"]}
             words["clip"] = {**ends, "scale": 1}
-        Path(path).write_bytes(
-            base64.b64decode(self.ask("Page.captureScreenshot", **words)["data"])
-        )
+        Path(path).write_bytes(base64.b64decode(self.ask("Page.captureScreenshot", **words)["data"]))

@@ -32,7 +32,7 @@ GOOD = {
     "zones": [ZONES.encode()],
     "shape": [KML.encode(), JSON.encode(), b"47 8\n47 8.01\n47.01 8.01\n"],
     "obs": [(EXAMPLES / "receiver.obs").read_bytes()[:4000]],
-    "settings": [(EXAMPLES / "settings.toml").read_bytes()],
+    "settings": [(EXAMPLES / name).read_bytes() for name in ("settings.toml", "station/settings.toml")],
 }
 
 
@@ -86,16 +86,10 @@ def call_of(draw, room):
             (known, log, places, "--limit", number(draw), number(draw)),
             (known, log, places, "--along", places),
             (suspects, "log", log),
-            (
-                suspects,
-                "open",
-                log,
-                log,
-                path_of(draw, room, "settings"),
-                "--program",
-                "/nonexistent",
-            ),
+            (suspects, "open", log, log, path_of(draw, room, "settings"), "--program", "/nonexistent"),
             (bounds, log, number(draw), "0", "0", "single", "--mask", number(draw)),
+            (bounds, log, number(draw), "1", "0", "dual", "--more", number(draw))
+            + ("--station", path_of(draw, room, "settings")),
             (risk, "--log", log, "--p", number(draw)),
             (risk, "--p", number(draw), "--satellites", number(draw)),
             (zones, zone, log),

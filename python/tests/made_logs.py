@@ -15,9 +15,7 @@ TOP = Path(__file__).resolve().parent.parent.parent
 EXAMPLES = TOP / "examples"
 SOURCES = TOP / "python/src"
 RECORDED = TOP / "scripts/recorded"
-RENEWED = (
-    TOP / "examples/renewed-rows.log"
-)  # the rows of G01 and G05 are renewed with a fifth of their errors
+RENEWED = TOP / "examples/renewed-rows.log"  # the rows of G01 and G05 are renewed with a fifth of their errors
 HEAD = "gpscover 1\nrules 1 10 1000\n"
 # A box of 200 m at the equator, at longitude 0: east is y, north is z, up is x.
 ROOT = "root 6378037000000 -100000000 -100000000 6378237000000 100000000 100000000\n"
@@ -39,9 +37,7 @@ WITHIN = (
     + ROOT
     + "".join(
         f"cut 0 {face} {end}\n"
-        for face, end in enumerate(
-            (6378135000000, 6378139000000, 20000000, 30000000, -10000000, 10000000)
-        )
+        for face, end in enumerate((6378135000000, 6378139000000, 20000000, 30000000, -10000000, 10000000))
     )
     + "edge 0 0 0\ndone 0\n"
 )
@@ -55,16 +51,9 @@ def tube_root(*ends):
 # Behind this epoch two of a track, 5 m being the reach: one keeps its whole search box, one keeps
 # no box.
 TUBE = (
-    WITHIN
-    + "epoch 2 895816770999000000000 5\n"
-    + tube_root(6378130, 15, -15, 6378144, 35, 15)
-    + "edge 0 0 0\ndone 0\n"
+    WITHIN + "epoch 2 895816770999000000000 5\n" + tube_root(6378130, 15, -15, 6378144, 35, 15) + "edge 0 0 0\ndone 0\n"
 )
-LOST = (
-    "epoch 3 895816771999000000000 5\n"
-    + tube_root(6378125, 10, -20, 6378149, 40, 20)
-    + "out 0\ndone 0\n"
-)
+LOST = "epoch 3 895816771999000000000 5\n" + tube_root(6378125, 10, -20, 6378149, 40, 20) + "out 0\ndone 0\n"
 
 
 def epoch_of(text, head=HEAD):
@@ -128,8 +117,7 @@ def ended(module, *words):
 
 @contextlib.contextmanager
 def written(**texts):
-    """The paths of files with these texts, in their order, in a folder that is removed behind
-    it."""
+    """The paths of files with these texts, in their order, in a folder that is removed behind it."""
     with tempfile.TemporaryDirectory() as room:
         paths = [Path(room) / name for name in texts]
         for path, text in zip(paths, texts.values()):

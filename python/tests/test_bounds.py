@@ -20,10 +20,7 @@ class TestBounds:
     def test_overhead_and_at_30_degrees(self):
         args = self.table("single")
         # overhead every factor is 1: 0.98 * 1.95, and 1.02 * 2.65 + 6
-        assert (
-            bounds.millimetres(bounds.bound_between(math.pi / 2, math.pi / 2, args))
-            == "[1911, 8703]"
-        )
+        assert bounds.millimetres(bounds.bound_between(math.pi / 2, math.pi / 2, args)) == "[1911, 8703]"
         # 1.001 / sqrt(0.252001) = 1.99404 and 1 / sqrt(1 - (6371 * 0.866025 / 6721)^2) = 1.75121
         low, high = bounds.bound_between(math.pi / 6, math.pi / 6, args)
         assert low == pytest.approx(1.911 * 1.99404, rel=0, abs=5e-4)
@@ -45,10 +42,7 @@ class TestBounds:
         args = self.table("dual", "--receiver", "1")
         assert bounds.receiver_bound(args) == pytest.approx(9529 / 2329, rel=0, abs=5e-8)
         assert "receiver = [-4092, 4092]" in list(bounds.common_lines(args))
-        assert (
-            bounds.millimetres(bounds.bound_between(math.pi / 2, math.pi / 2, args))
-            == "[1911, 2703]"
-        )
+        assert bounds.millimetres(bounds.bound_between(math.pi / 2, math.pi / 2, args)) == "[1911, 2703]"
 
     def test_an_unseen_satellite_gets_the_widest_bound(self):
         args = self.table("single")
@@ -64,9 +58,7 @@ class TestBounds:
             for line in bounds.satellite_lines({"E11": (1.0, 1.1)}, self.table("dual"))
             if "=" in line
         ]
-        assert [name for name in names if name[0] == "E"] == [
-            f"E{number:02}" for number in range(1, 37)
-        ]
+        assert [name for name in names if name[0] == "E"] == [f"E{number:02}" for number in range(1, 37)]
         assert sum(name[0] == "G" for name in names) == 32
 
     def test_a_satellite_below_the_mask_limits_nothing(self):
@@ -120,9 +112,7 @@ class TestBounds:
         assert not [line for line in bounds.satellite_lines({}, args) if "ionosphere" in line]
         # Without the zenith the troposphere is in the satellites' bounds.
         assert (
-            bounds.millimetres(
-                bounds.bound_between(math.pi / 2, math.pi / 2, self.table("single", "--vertical"))
-            )
+            bounds.millimetres(bounds.bound_between(math.pi / 2, math.pi / 2, self.table("single", "--vertical")))
             == "[1911, 2703]"
         )
         for mode, *words in (
@@ -136,24 +126,21 @@ class TestBounds:
 
     def test_a_zenith_that_the_settings_would_refuse(self):
         assert "zenith = [-10000, 10000]" in list(
-            bounds.common_lines(
-                self.table("dual", "--zenith", "--troposphere", "-10", "10", "--mapping", "0")
-            )
+            bounds.common_lines(self.table("dual", "--zenith", "--troposphere", "-10", "10", "--mapping", "0"))
         )
         for words in (("2", "9.9"), ("-10.3", "2"), ("2", "10.0001")):
             with pytest.raises(UsageError):
                 self.table("dual", "--zenith", "--troposphere", *words)
-            assert (
-                ended_with(bounds, "x", 0, 0, 0, "dual", "--zenith", "--troposphere", *words)[0]
-                == 2
-            )
+            assert ended_with(bounds, "x", 0, 0, 0, "dual", "--zenith", "--troposphere", *words)[0] == 2
             self.table("dual", "--troposphere", *words)
 
     LATER = "".join(
         f"epoch {k} {seconds}000000000000 5\n{{sats}}{ROOT}out 0\ndone 0\n"
         for k, seconds in ((7, 3), (8, 8), (9, 12), (10, 33))
     )
-    SETTINGS = '[search]\nhalf = 5\n[signal]\nmode = "single"\n\n[bounds]\nreceiver = [0, 0]\n[satellite]\nG01 = [0, 0]\n'
+    SETTINGS = (
+        '[search]\nhalf = 5\n[signal]\nmode = "single"\n\n[bounds]\nreceiver = [0, 0]\n[satellite]\nG01 = [0, 0]\n'
+    )
 
     def test_stretches_of_a_long_log(self):
         with written(log=HEAD + self.LATER.format(sats=FIVE)) as (log,):
@@ -169,10 +156,7 @@ class TestBounds:
                 assert [len(it.seen) for it in found] == [5] * len(wanted)
 
     def test_settings_and_lines_for_each_stretch(self):
-        with written(log=HEAD + self.LATER.format(sats=FIVE), settings=self.SETTINGS) as (
-            log,
-            settings,
-        ):
+        with written(log=HEAD + self.LATER.format(sats=FIVE), settings=self.SETTINGS) as (log, settings):
             folder = log.parent / "my parts"
             status, out, _ = ended_with(
                 bounds,
@@ -197,21 +181,21 @@ class TestBounds:
             whole = ended_with(bounds, log, 6378137, 0, 0, "single")[1]
         assert (status, len(lines), len(texts)) == (0, 4, 2)
         assert re.search(
-            "^gpscover solve 'a b.obs' c.nav '.*/part01.toml' '.*/part01.log' --from 7 --to 9 > /dev/",
-            lines[0],
+            "^gpscover solve 'a b.obs' c.nav '.*/part01.toml' '.*/part01.log' --from 7 --to 9 > /dev/", lines[0]
         )
         assert re.search(
-            "^gpscover check 'a b.obs' c.nav '.*/part02.toml' '.*/part02.log' --from 10 --to 10$",
-            lines[3],
+            "^gpscover check 'a b.obs' c.nav '.*/part02.toml' '.*/part02.log' --from 10 --to 10$", lines[3]
         )
         # The satellites stand still here, so each part has the table of the whole.
         assert texts == [self.SETTINGS[: self.SETTINGS.index("[bounds]")] + whole] * 2
 
     def test_settings_that_do_not_end_with_the_bounds_are_refused(self):
         other = self.SETTINGS.replace("[satellite]", "[signal.more]")
-        with written(
-            none="[search]\n", other=other, dual=self.SETTINGS.replace("single", "dual")
-        ) as (none, other, dual):
+        with written(none="[search]\n", other=other, dual=self.SETTINGS.replace("single", "dual")) as (
+            none,
+            other,
+            dual,
+        ):
             for path, words in (
                 (none, "aren't the last ones"),
                 (other, "aren't the last ones"),
@@ -229,10 +213,7 @@ class TestBounds:
         root = epoch_of(PAVED).root
         bounds.refuse_stranger(root, (6378137, -100, 100))
         for place, words in (
-            (
-                (6378137, 0, 3100),
-                "3.000 km outside the search box of the log, whose middle is 6378137 0 0",
-            ),
+            ((6378137, 0, 3100), "3.000 km outside the search box of the log, whose middle is 6378137 0 0"),
             ((6378137, 300.5, 0), "0.201 km outside"),
             ((6378137000, 500, -99000), "is in millimetres"),
         ):
@@ -243,6 +224,4 @@ class TestBounds:
         place = geodesy.earth_fixed(0.6, 2.4, 100.0)
         east, north, up = geodesy.local_axes(0.6, 2.4)
         target = [p + 2e7 * (0.5 * u + math.sqrt(0.75) * n) for p, u, n in zip(place, up, north)]
-        assert math.degrees(geodesy.elevation(place, target)) == pytest.approx(
-            30.0, rel=0, abs=5e-7
-        )
+        assert math.degrees(geodesy.elevation(place, target)) == pytest.approx(30.0, rel=0, abs=5e-7)

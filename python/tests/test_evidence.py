@@ -1,8 +1,7 @@
 """Evidence of a run, by the program of GPSCOVER or of ./gpscover.
 
-A bundle is made of one epoch of the example with eight splits, and one of a track of two. Then it
-is checked in another folder, and each of sixteen changes of the one and three of the other has to
-be told by the line that it concerns.
+A bundle is made of one epoch of the example with eight splits, and one of a track of two. Then it is checked in another
+folder, and each of sixteen changes of the one and three of the other has to be told by the line that it concerns.
 """
 
 import os
@@ -47,49 +46,17 @@ CHANGES = (
         edited("settings.toml", r"receiver = \[-3000, 3000\]", "receiver = [-3000, 3001]"),
         "settings: ",
     ),
-    (
-        "a comment of the settings",
-        edited("settings.toml", "# Settings", "# settings"),
-        "settings: ",
-    ),
-    (
-        "a span of clock offsets",
-        edited("receiver.log", r"(?m)^(edge \d+ -\d+)\d", r"\g<1>"),
-        "log: ",
-    ),
+    ("a comment of the settings", edited("settings.toml", "# Settings", "# settings"), "settings: "),
+    ("a span of clock offsets", edited("receiver.log", r"(?m)^(edge \d+ -\d+)\d", r"\g<1>"), "log: "),
     ("the log's last line", edited("receiver.log", r"done \d+\n", ""), "epochs: "),
-    (
-        "the number of boxes",
-        edited("evidence.txt", r"(?m)^check yes \d+", "check yes 1"),
-        "check: ",
-    ),
-    (
-        "the other number of boxes",
-        edited("evidence.txt", r"(?m)^recheck yes \d+", "recheck yes 1"),
-        "recheck: ",
-    ),
+    ("the number of boxes", edited("evidence.txt", r"(?m)^check yes \d+", "check yes 1"), "check: "),
+    ("the other number of boxes", edited("evidence.txt", r"(?m)^recheck yes \d+", "recheck yes 1"), "recheck: "),
     ("the count of epochs", edited("evidence.txt", "0 empty", "1 empty"), "epochs: "),
-    (
-        "the program's checksum",
-        edited("evidence.txt", r"(?m)^(program .* sha256 )[0-9a-f]", r"\g<1>g"),
-        "program: ",
-    ),
-    (
-        "the versions",
-        edited("evidence.txt", r"logs of the versions \d+", "logs of the versions 0"),
-        "version: ",
-    ),
+    ("the program's checksum", edited("evidence.txt", r"(?m)^(program .* sha256 )[0-9a-f]", r"\g<1>g"), "program: "),
+    ("the versions", edited("evidence.txt", r"logs of the versions \d+", "logs of the versions 0"), "version: "),
     ("an option", edited("evidence.txt", "--to 1", "--to 2"), "check: "),
-    (
-        "a line less",
-        edited("evidence.txt", r"(?m)^recheck .*\n", ""),
-        "the lines of evidence.txt aren't those",
-    ),
-    (
-        "a name that leaves the folder",
-        edited("evidence.txt", "(?m)^obs receiver.obs", "obs ../my.obs"),
-        "obs: ",
-    ),
+    ("a line less", edited("evidence.txt", r"(?m)^recheck .*\n", ""), "the lines of evidence.txt aren't those"),
+    ("a name that leaves the folder", edited("evidence.txt", "(?m)^obs receiver.obs", "obs ../my.obs"), "obs: "),
     ("a file more", with_file, "more.log doesn't belong to the bundle"),
     ("a file less", lambda folder: (folder / "receiver.nav").unlink(), "receiver.nav is missing"),
 )
@@ -100,8 +67,7 @@ def receiver_in(room, more="", change=lambda text: text):
     other observations."""
     files = [room / name for name in ("my.obs", "my.nav", "my.toml", "my.log")]
     obs, nav, settings = (
-        (EXAMPLES / name).read_text(encoding="utf-8")
-        for name in ("receiver.obs", "receiver.nav", "settings.toml")
+        (EXAMPLES / name).read_text(encoding="utf-8") for name in ("receiver.obs", "receiver.nav", "settings.toml")
     )
     settings = re.sub(r"(?m)^bisections = .*", "bisections = 8", settings) + more
     for path, text in zip(files, (change(obs), nav, settings)):
@@ -110,22 +76,17 @@ def receiver_in(room, more="", change=lambda text: text):
 
 
 def bundle_of(room, files, last, track=False):
-    """A bundle of the epochs up to a last one, the status of making it, and what it says by the
-    names of its lines."""
+    """A bundle of the epochs up to a last one, the status of making it, and what it says by the names of its lines."""
     command, more = ("track", ["--track"]) if track else ("solve", [])
     options = ["--to", str(last)]
     subprocess.run([PROGRAM, command, *files, *options], stdout=subprocess.DEVNULL, check=True)
-    status, said, _ = ended_with(
-        evidence, "make", room / "bundle", *files, *more, *options, "--program", PROGRAM
-    )
+    status, said, _ = ended_with(evidence, "make", room / "bundle", *files, *more, *options, "--program", PROGRAM)
     return room / "bundle", status, dict(line.split(" ", 1) for line in said.splitlines())
 
 
 def boxes_in(log):
     """How many lines of a log keep a box."""
-    return sum(
-        line.startswith(("in ", "edge ")) for line in log.read_text(encoding="ascii").splitlines()
-    )
+    return sum(line.startswith(("in ", "edge ")) for line in log.read_text(encoding="ascii").splitlines())
 
 
 class Room:
@@ -215,9 +176,7 @@ class TestRefused:
     def test_nothing_is_left_of_a_bundle_that_lacks_a_file(self):
         with written(obs="", nav="", settings="") as files:
             folder = files[0].parent / "bundle"
-            assert "No such file or directory" in self.refused(
-                "make", folder, *files, folder.parent / "none"
-            )
+            assert "No such file or directory" in self.refused("make", folder, *files, folder.parent / "none")
             assert not folder.exists()
             folder.mkdir()
             assert "File exists" in self.refused("make", folder, *files, files[0])
@@ -236,20 +195,17 @@ class TestBundles(Room):
         lines = self.lines
         assert (lines["check"], lines["recheck"]) == (f"yes {boxes_in(self.files[3])}",) * 2
         assert re.search(
-            "^4 in the file, 1 in the log: 1 paved, 0 few, 0 empty, [01] reach .*; 3 left out$",
-            lines["epochs"],
+            "^4 in the file, 1 in the log: 1 paved, 0 few, 0 empty, [01] reach .*; 3 left out$", lines["epochs"]
         )
         assert lines["options"] == "--from 1 --to 1"
         size = os.path.getsize(self.files[0])
-        known = subprocess.run(
-            ["sha256sum", self.files[0]], capture_output=True, text=True, check=True
-        ).stdout.split()[0]
+        known = subprocess.run(["sha256sum", self.files[0]], capture_output=True, text=True, check=True).stdout.split()[
+            0
+        ]
         assert lines["obs"] == f"receiver.obs {size} bytes sha256 {known}"
 
     def test_it_is_right_in_another_place(self):
-        status, said = self.check(
-            self.copy(), "--sha256", evidence.checksum(self.bundle / "evidence.txt")
-        )
+        status, said = self.check(self.copy(), "--sha256", evidence.checksum(self.bundle / "evidence.txt"))
         assert status == 0
         assert "the bundle is as it says: yes " in said
 
@@ -264,9 +220,7 @@ class TestBundles(Room):
         lines = evidence.made(folder, PROGRAM, second, evidence.Options(1, 1))
         (folder / "evidence.txt").write_text(evidence.sheet(lines), encoding="utf-8", newline="\n")
         assert self.check(folder)[0] == 0
-        status, said = self.check(
-            folder, "--sha256", evidence.checksum(self.bundle / "evidence.txt")
-        )
+        status, said = self.check(folder, "--sha256", evidence.checksum(self.bundle / "evidence.txt"))
         assert status == 1
         assert "evidence.txt has the checksum" in said
 
@@ -277,11 +231,7 @@ class TestBundles(Room):
         assert self.check(folder, "--other-program")[0] == 0
 
     def test_what_is_no_evidence_is_refused(self):
-        for old, new in (
-            ("gpscover evidence 1", "gpscover evidence 2"),
-            ("--to 1", "--to 0"),
-            ("options ", "option "),
-        ):
+        for old, new in (("gpscover evidence 1", "gpscover evidence 2"), ("--to 1", "--to 0"), ("options ", "option ")):
             folder = self.copy()
             edited("evidence.txt", old, new)(folder)
             assert "this isn't evidence of gpscover, or it was changed" in self.check(folder)[1]
@@ -289,33 +239,17 @@ class TestBundles(Room):
     def test_there_is_none_where_a_verdict_is_no(self):
         other = self.room / "other.toml"
         other.write_text(
-            self.files[2].read_text(encoding="utf-8").replace("[-3000, 3000]", "[-3000, 3001]", 1),
-            encoding="utf-8",
+            self.files[2].read_text(encoding="utf-8").replace("[-3000, 3000]", "[-3000, 3001]", 1), encoding="utf-8"
         )
         folder = self.room / "none"
-        with pytest.raises(
-            Error, match="no evidence: check says no 54 BoundDiffers line 4, recheck says no 54"
-        ):
-            ended_with(
-                evidence,
-                "make",
-                folder,
-                *self.files[:2],
-                other,
-                self.files[3],
-                "--to",
-                1,
-                "--program",
-                PROGRAM,
-            )
+        with pytest.raises(Error, match="no evidence: check says no 54 BoundDiffers line 4, recheck says no 54"):
+            ended_with(evidence, "make", folder, *self.files[:2], other, self.files[3], "--to", 1, "--program", PROGRAM)
         assert not folder.exists()
 
     def test_events_are_no_epochs(self):
         path = self.room / "events.obs"
         path.write_text(
-            "> 2008 05 26 05 59 29.9990000  0  1\nG01\n> "
-            + " " * 29
-            + "4  2\n> comment\n> comment\n"
+            "> 2008 05 26 05 59 29.9990000  0  1\nG01\n> " + " " * 29 + "4  2\n> comment\n> comment\n"
             "> 2008 05 26 05 59 30.9990000  1  0\n",
             encoding="ascii",
         )
@@ -329,11 +263,7 @@ TRACK_CHANGES = (
         edited("settings.toml", "(?m)^speed = 3000$", "speed = 3001"),
         r"retrack: the bundle says yes \d+; here it is no 55 RootDiffers line \d+",
     ),
-    (
-        "the search box of the second epoch",
-        edited("receiver.log", r"(?s)(.*\nroot -\d+)\d ", r"\g<1> "),
-        "log: ",
-    ),
+    ("the search box of the second epoch", edited("receiver.log", r"(?s)(.*\nroot -\d+)\d ", r"\g<1> "), "log: "),
     (
         "that it is a track",
         edited("evidence.txt", "options --track ", "options "),
@@ -368,10 +298,7 @@ class TestTracks(Room):
             lines["epochs"]
             == "4 in the file, 2 in the log: 2 paved, 0 few, 0 empty, 0 reach the search box; 2 left out"
         )
-        assert (
-            self.check(self.copy(), "--sha256", evidence.checksum(self.bundle / "evidence.txt"))[0]
-            == 0
-        )
+        assert self.check(self.copy(), "--sha256", evidence.checksum(self.bundle / "evidence.txt"))[0] == 0
 
     def test_each_change_is_told(self):
         self.expect_told(TRACK_CHANGES)
@@ -379,9 +306,7 @@ class TestTracks(Room):
     def test_it_is_no_evidence_without_its_speed(self):
         told = "no evidence: check says no 53 RowNarrow .*, recheck says no 53 RowNarrow "  # rows of a smaller box are narrower
         with pytest.raises(Error, match=told):
-            ended_with(
-                evidence, "make", self.room / "none", *self.files, "--to", 2, "--program", PROGRAM
-            )
+            ended_with(evidence, "make", self.room / "none", *self.files, "--to", 2, "--program", PROGRAM)
 
     def test_a_lost_track_names_its_last_epoch(self):
         room = self.room / "lost"
@@ -393,3 +318,44 @@ class TestTracks(Room):
             "4 in the file, 2 in the log: 2 paved, 0 few, 1 empty, 0 reach the search box; 2 left out;"
             " the track ends with epoch 2, which keeps no box"
         )
+
+
+PAIR = EXAMPLES / "station"
+STATION_CHANGES = (
+    ("a code of the station", edited("station.obs", r"(?m)^(G08 +\d+)", r"\g<1>0"), "station: "),
+    ("that there is one", edited("evidence.txt", r"(?m)^station .*\n", ""), "station.obs doesn't belong to the bundle"),
+    ("a file less", lambda folder: (folder / "station.obs").unlink(), "station.obs is missing"),
+)
+
+
+class TestStation(Room):
+    @classmethod
+    def setup_class(cls):
+        super().setup_class()
+        text = (PAIR / "settings.toml").read_text(encoding="utf-8")
+        settings = cls.room / "my.toml"
+        settings.write_text(re.sub("(?m)^bisections = .*", "bisections = 8", text))
+        cls.files = [PAIR / "receiver.obs", PAIR / "receiver.nav", settings, cls.room / "my.log"]
+        cls.options = ["--to", "1", "--station", str(PAIR / "station.obs")]
+        words = [PROGRAM, "solve", *map(str, cls.files), *cls.options]
+        subprocess.run(words, stdout=subprocess.DEVNULL, check=True)
+        cls.bundle = cls.room / "bundle"
+        words = ["make", cls.bundle, *cls.files, *cls.options, "--program", PROGRAM]
+        cls.status, said, _ = ended_with(evidence, *words)
+        cls.lines = dict(line.split(" ", 1) for line in said.splitlines())
+
+    def test_the_station_s_file_is_of_the_bundle(self):
+        assert self.status == 0
+        known = evidence.checksum(PAIR / "station.obs")
+        assert self.lines["station"].startswith("station.obs ")
+        assert self.lines["station"].endswith(f" sha256 {known}")
+        assert (self.lines["check"], self.lines["recheck"]) == (f"yes {boxes_in(self.files[3])}",) * 2
+        assert self.check(self.copy())[0] == 0
+
+    def test_each_change_is_told(self):
+        self.expect_told((name, change, re.escape(told)) for name, change, told in STATION_CHANGES)
+
+    def test_it_is_no_evidence_without_its_station(self):
+        words = ["make", self.room / "none", *self.files, "--to", "1", "--program", PROGRAM]
+        with pytest.raises(Error, match="settings 33 Outside station.place"):
+            ended_with(evidence, *words)

@@ -3,6 +3,7 @@
 import csv
 import json
 import math
+import sys
 
 import pytest
 from made_logs import HEAD, PAVED, RECORDED, ROOT, WITHIN, ended, written
@@ -66,7 +67,54 @@ def test_frames_have_what_the_log_has(path):
 
 
 def test_without_pandas_a_line_says_so(monkeypatch, tmp_path):
-    monkeypatch.setitem(__import__("sys").modules, "pandas", None)
+    monkeypatch.setitem(sys.modules, "pandas", None)
     status, out, err = ended(frames, LOGS[0], tmp_path / "a.csv")
     assert (status, out, err.count("\n")) == (1, "", 1)
     assert "has no pandas; Debian: apt-get install python3-pandas" in err
+
+
+@pytest.mark.parametrize(
+    "name, libraries, told",
+    [
+        ("a.gpkg", ["geopandas"], "has no geopandas; Debian: apt-get install python3-geopandas"),
+        ("a.parquet", ["pyarrow", "fastparquet"], "Parquet needs pyarrow or fastparquet"),
+    ],
+)
+def test_without_the_library_of_a_form_a_line_says_so(monkeypatch, tmp_path, name, libraries, told):
+    pytest.importorskip("pandas")
+    for library in libraries:
+        monkeypatch.setitem(sys.modules, library, None)
+    status, out, err = ended(export, LOGS[0], tmp_path / name)
+    assert (status, out, err.count("\n"), told in err) == (1, "", 1, True)
+    assert list(tmp_path.iterdir()) == []
+
+
+def test_a_geopackage_has_a_feature_for_each_epoch(tmp_path):
+    geopandas = pytest.importorskip("geopandas")
+    out = tmp_path / "a.gpkg"
+    with written(log=HEAD + PAVED + EMPTY + FEW) as (log,):
+        for _ in range(2):  # the second one writes over the first
+            assert ended(export, log, out) == (0, "", "")
+        (ring,) = next(geojson.features(log))["geometry"]["coordinates"]
+    found = geopandas.read_file(out)
+    assert (list(found["mark"]), found.crs.to_epsg()) == (["reaches", "empty", "few"], 4326)
+    assert list(found.geometry.notna()) == [True, False, False]
+    assert list(found.geometry[0].exterior.coords) == [tuple(corner) for corner in ring]
+
+
+def test_a_geopackage_that_is_not_written_is_told_in_one_line(tmp_path):
+    pytest.importorskip("geopandas")
+    with written(log=HEAD + PAVED, none=HEAD) as (log, none):
+        for source, out in ((none, tmp_path / "a.gpkg"), (log, tmp_path / "absent/a.gpkg")):
+            status, said, err = ended(export, source, out)
+            assert (status, said, err.count("\n")) == (1, "", 1)
+    assert list(tmp_path.iterdir()) == []
+
+
+def test_numbers_beyond_64_bits_are_whole_in_a_frame():
+    pytest.importorskip("pandas")
+    far = 10**20 - 1
+    with written(log=f"{HEAD}epoch 1 0 5\nroot 0 0 0 1 1 {far}\nedge 0 -{far} 1\ndone 0\n", none=HEAD) as (log, none):
+        (row,) = gpscover.open_log(log).boxes_frame().to_dict("records")
+        assert len(gpscover.open_log(none).boxes_frame()) == 0
+    assert (row["z_high_um"], row["clock_low_um"], row["inner"]) == (far, -far, False)

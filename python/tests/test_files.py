@@ -32,9 +32,7 @@ RECORDS = (  # the line of version 4, whether the record is taken
     ("> ION G01 LNAV", "    1.0\n", False),
 )
 LABELS = ("PGM / RUN BY / DATE", "DOI", "LEAP SECONDS", "LICENSE OF USE", "END OF HEADER")
-VERSION_4 = header("4.00", "N: GNSS NAV DATA", *LABELS) + "".join(
-    f"{line}\n{text}" for line, text, _ in RECORDS
-)
+VERSION_4 = header("4.00", "N: GNSS NAV DATA", *LABELS) + "".join(f"{line}\n{text}" for line, text, _ in RECORDS)
 
 
 def test_broadcast_files_of_version_4():

@@ -42,7 +42,7 @@ class TestHostile:
         (PAVED.replace("895816769999000000000", "-1"), 3),
         (PAVED.replace("895816769999000000000", "4000000000000000000000"), 3),
         (PAVED.replace("000 5\n", "000\n"), 3),
-        ("few 1 0 0\nskip G01 8\n", 4),
+        ("few 1 0 0\nskip G01 10\n", 4),
         ("few 1 0 0\nskip  3\n", 4),
         ("few 1 0 0\nskip G01 6 1 1\n", 4),
         ("epoch 1 0 0\nsat  0 0 0 0 0 0 0 0 0 0\n" + ROOT, 4),
@@ -78,18 +78,7 @@ class TestHostile:
             self.expect(2, told, bounds, *place, 3717367, "single", "--rise", word, "--zenith")
             self.expect(2, told, summary, log, "--places", known, "--azimuth", word)
             self.expect(2, told, summary, log, "--places", known, "--limit", 5, word)
-        self.expect(
-            2,
-            "shell is at least 1 km high",
-            bounds,
-            *place,
-            3717367,
-            "single",
-            "--shell",
-            0,
-            "--mask",
-            0,
-        )
+        self.expect(2, "shell is at least 1 km high", bounds, *place, 3717367, "single", "--shell", 0, "--mask", 0)
 
     def test_numbers_that_are_none_are_refused_in_lists_of_places(self):
         for line in (
@@ -107,21 +96,12 @@ class TestHostile:
 
     def test_a_satellite_at_the_rough_place_and_one_right_above(self):
         for name, target, angle in (("there", (6378137, 0, 0), 0), ("above", (26378137, 0, 0), 90)):
-            assert math.degrees(geodesy.elevation((6378137, 0, 0), target)) == pytest.approx(
-                angle, rel=0, abs=5e-8
-            )
+            assert math.degrees(geodesy.elevation((6378137, 0, 0), target)) == pytest.approx(angle, rel=0, abs=5e-8)
 
     def test_no_map_is_left_of_a_log_that_was_cut(self):
         with written(log=HEAD + WITHIN + WITHIN[:-5]) as (log,):
             path = log.parent / "map.kml"
-            self.expect(
-                1,
-                "ends within an epoch, at line 22: its run was ended early",
-                summary,
-                log,
-                "--kml",
-                path,
-            )
+            self.expect(1, "ends within an epoch, at line 22: its run was ended early", summary, log, "--kml", path)
             assert os.listdir(log.parent) == ["log"]
             self.expect(1, "Is a directory.*", summary, log, "--kml", log.parent)
 
@@ -139,9 +119,7 @@ class TestHostile:
         for words in ways:
             reader, writer = os.pipe()
             os.close(reader)
-            with open("/dev/full", "w", encoding="utf-8") as full, open(
-                writer, "w", encoding="utf-8"
-            ) as pipe:
+            with open("/dev/full", "w", encoding="utf-8") as full, open(writer, "w", encoding="utf-8") as pipe:
                 for out, why in ((full, "No space left on device"), (pipe, "Broken pipe")):
                     assert self.run_into(out, *words) == (
                         1,

@@ -36,9 +36,7 @@ def numbers(text, place, azimuth=None):
 
 def corners_seen(box, place):
     """The corners of a box as seen from a place, in m."""
-    return [
-        [box[k + 3 * (which >> k & 1)] / 1e6 - place[k] for k in range(3)] for which in range(8)
-    ]
+    return [[box[k + 3 * (which >> k & 1)] / 1e6 - place[k] for k in range(3)] for which in range(8)]
 
 
 def judged(text, place, limits):
@@ -61,28 +59,20 @@ class TestCorners:
         # east, 105 m south.
         found = numbers(PAVED, (6378150, -10, 5), math.radians(90))
         assert found.held
-        self.assert_lengths(
-            (found.hpl, found.vpl, found.along, found.across), (math.hypot(110, 105), 87, 110, 105)
-        )
+        self.assert_lengths((found.hpl, found.vpl, found.along, found.across), (math.hypot(110, 105), 87, 110, 105))
         # The middle of the extents is at y = z = 0 and 50 m up; the corners of the first box are
         # 100 m from it both ways.
-        self.assert_lengths(
-            found.error + found.reach, (math.hypot(10, 5), 37, math.hypot(100, 100), 50)
-        )
+        self.assert_lengths(found.error + found.reach, (math.hypot(10, 5), 37, math.hypot(100, 100), 50))
 
     def test_along_and_across_a_diagonal(self):
         # Along north-east (y + z) and across (y - z), both by the root of 2, the corners of the
         # boxes are from the place
         # (0, 0): (-100, -100) is 200 along, (-100, 100) and (100, -100) are 200 across.
         found = numbers(PAVED, (6378150, 0, 0), math.radians(45))
-        self.assert_lengths(
-            (found.along, found.across), (200 * math.sqrt(0.5), 200 * math.sqrt(0.5))
-        )
+        self.assert_lengths((found.along, found.across), (200 * math.sqrt(0.5), 200 * math.sqrt(0.5)))
         # At 0 degrees along is north: 100 m either way; across is 100 m too.
         found = numbers(WITHIN, (6378137, 25, 5), 0.0)
-        self.assert_lengths(
-            (found.hpl, found.vpl, found.along, found.across), (math.hypot(5, 15), 2, 15, 5)
-        )
+        self.assert_lengths((found.hpl, found.vpl, found.along, found.across), (math.hypot(5, 15), 2, 15, 5))
 
     def test_a_cube_that_lies_askew(self):
         # A cube of 20 m at longitude 45 degrees: east is (y - x) and up is (x + y), each by the
@@ -90,9 +80,7 @@ class TestCorners:
         half = math.sqrt(0.5)
         place = (6378137 * half, 6378137 * half, 0)
         found = numbers(box_at(place, (20, 20, 20)), place)
-        self.assert_lengths(
-            (found.hpl, found.vpl), (math.hypot(10 * math.sqrt(2), 10), 10 * math.sqrt(2))
-        )
+        self.assert_lengths((found.hpl, found.vpl), (math.hypot(10 * math.sqrt(2), 10), 10 * math.sqrt(2)))
 
     def test_every_corner_is_asked(self):
         # The farthest of all corners, by the corners themselves.
@@ -177,30 +165,20 @@ class TestDiagram:
 class TestWords:
     def test_the_line_and_the_counts(self):
         with written(log=HEAD + WITHIN, places=f"{DATE} 6378137 25 5\n") as (log, known):
-            status, out, _ = ended_with(
-                summary, log, "--places", known, "--azimuth", 0, "--limit", 12, 2.5, "--strict"
-            )
+            status, out, _ = ended_with(summary, log, "--places", known, "--azimuth", 0, "--limit", 12, 2.5, "--strict")
         assert status == 0
         assert re.search(r"height m held +hpl m +vpl m +along m +across m$", out.splitlines()[0])
         # the farthest corner is 5 m east, 15 m south and 2 m up, and less than 0.1 mm more by the
         # axes' turn: rounded up
         assert re.search(r" yes +15\.9 +2\.1 +15\.1 +5\.1$", out.splitlines()[1])
         assert "1 epochs have one and 1 of these a region, which holds it in 1\n" in out
-        assert (
-            "15.9 m along the ground, 2.1 m up or down; of declared bounds, not of a probability"
-            in out
-        )
-        assert (
-            "limits 12 m along the ground, 2.5 m up: of 1 epochs 1 available, 0 misleading, 0 hazardous"
-            in out
-        )
+        assert "15.9 m along the ground, 2.1 m up or down; of declared bounds, not of a probability" in out
+        assert "limits 12 m along the ground, 2.5 m up: of 1 epochs 1 available, 0 misleading, 0 hazardous" in out
 
     def test_the_values(self):
         with written(log=HEAD + WITHIN, places=f"{DATE} 6378137 0 0\n") as (log, known):
             plain = ended_with(summary, log, "--csv")[1].splitlines()
-            limited = ended_with(summary, log, "--csv", "--places", known, "--limit", 24, 10)[
-                1
-            ].splitlines()
+            limited = ended_with(summary, log, "--csv", "--places", known, "--limit", 24, 10)[1].splitlines()
         assert limited[1].startswith(plain[1] + ",")
         values = dict(zip(limited[0].split(","), limited[1].split(","), strict=True))
         # (30, 10) is the farthest corner; the middle is 25 m east and its corners are 5 m and 10 m
@@ -218,15 +196,12 @@ class TestWords:
         assert {name: values[name] for name in wanted} == wanted
 
     def test_a_place_that_is_not_held_is_warned_of(self):
-        with written(
-            log=HEAD + WITHIN, aside=f"{DATE} 6378137 0 0\n", away=f"{DATE} 6378137 900 0\n"
-        ) as (log, *lists):
+        with written(log=HEAD + WITHIN, aside=f"{DATE} 6378137 0 0\n", away=f"{DATE} 6378137 900 0\n") as (log, *lists):
             said = [ended_with(summary, log, "--places", known, "--strict") for known in lists]
         for status, out, _ in said:
             assert status == 3
             assert re.search(
-                "warning: in 1 of 1 regions the known place isn't in a kept box.* first is epoch 1: more",
-                out,
+                "warning: in 1 of 1 regions the known place isn't in a kept box.* first is epoch 1: more", out
             )
         assert "outside the search box" not in said[0][1].split("warning: in 1")[1]
         assert "in 1 of these since it is outside the search box" in said[1][1]
@@ -240,10 +215,7 @@ class TestWords:
 
     def test_places_of_another_time_are_refused(self):
         with written(
-            log=HEAD + WITHIN,
-            other="2008/05/27 05:59:29.999 1 2 3\n",
-            utc="2008/05/26 05:59:15.999 1 2 3\n",
-            out="",
+            log=HEAD + WITHIN, other="2008/05/27 05:59:29.999 1 2 3\n", utc="2008/05/26 05:59:15.999 1 2 3\n", out=""
         ) as (log, other, utc, out):
             for script, words in (
                 (summary, [log]),
@@ -251,9 +223,7 @@ class TestWords:
                 (pictures, ["region", log, f"{out}.png"]),
                 (pictures, ["integrity", log, f"{out}.png"]),
             ):
-                with pytest.raises(
-                    Error, match="no place within 0.1 s of .* are of 2008-05-27 05:59:29.999"
-                ):
+                with pytest.raises(Error, match="no place within 0.1 s of .* are of 2008-05-27 05:59:29.999"):
                     ended_with(script, *words, "--places", other)
                 with pytest.raises(Error, match="the nearest is 14 s before it: are they in UTC?"):
                     ended_with(script, *words, "--places", utc)
@@ -272,8 +242,7 @@ class TestWords:
 
 class TestTracks:
     def direction(self, *points, at=0):
-        """The azimuth in degrees at a time in s of a track with one place a second, from y and z at
-        the equator."""
+        """The azimuth in degrees at a time in s of a track with one place a second, from y and z at the equator."""
         track = [(k * 10**12, (6378137, y, z)) for k, (y, z) in enumerate(points)]
         found = places.direction(track, round(at * 10**12))
         return None if found is None else round(math.degrees(found), 3)
@@ -314,9 +283,7 @@ class TestPictures:
             epoch = epoch_of(text)
             title = pictures.region_title(epoch, region.region_of(epoch))
             assert f"q = 1, {splits} splits\n" in title
-            assert (
-                "reaches the search box at -y -z +x +y +z: it may go on outside" in title
-            ) == is_cut
+            assert ("reaches the search box at -y -z +x +y +z: it may go on outside" in title) == is_cut
 
     def test_bands_of_epochs_that_are_cut_or_empty(self):
         course = pictures.Course(places.Meetings(None, []), False)
@@ -325,13 +292,8 @@ class TestPictures:
         assert course.title() == "8 epochs; 0 reach the search box, 2 are empty"
         assert course.empty == [False] * 6 + [True] * 2
         assert pictures.edges_of([0, 2, 10]) == [(-1.0, 1.0), (1.0, 6.0), (6.0, 14.0)]
-        xs, lows, highs = pictures.bands(
-            [(0, 1), (1, 2), (2, 3)], [(5, 6)] * 3, [True, False, True]
-        )
-        assert (xs, [low == 5 for low in lows]) == (
-            (0, 1, 1, 2, 3),
-            [True, True, False, True, True],
-        )
+        xs, lows, highs = pictures.bands([(0, 1), (1, 2), (2, 3)], [(5, 6)] * 3, [True, False, True])
+        assert (xs, [low == 5 for low in lows]) == ((0, 1, 1, 2, 3), [True, True, False, True, True])
 
     def test_points_are_of_the_first_kind_that_they_are(self):
         for text, place, name in (

@@ -19,9 +19,7 @@ class TestLogs:
 
     def test_all_versions_are_read(self):
         for version in "23":
-            assert epochs_of(PAVED) == epochs_of(
-                PAVED, HEAD.replace("gpscover 1", f"gpscover {version}")
-            )
+            assert epochs_of(PAVED) == epochs_of(PAVED, HEAD.replace("gpscover 1", f"gpscover {version}"))
         for first in "gpscover 0", "gpscover 4", "gpscover 3 ", "gpscover 02", "gpscover":
             with pytest.raises(Error, match="line 1: this isn't a log"):
                 epochs_of(PAVED, HEAD.replace("gpscover 1", first))
@@ -33,9 +31,7 @@ class TestLogs:
         assert epoch.kept[0].box == (11, 12, 13, 89, 88, 87)
 
     def test_halves_of_negative_ends_are_floored(self):
-        epoch = epoch_of(
-            "epoch 1 0 5\nroot -5 0 0 2 1 1\nsplit 0 0\nedge 1 0 0\nedge 2 0 0\ndone 1\n"
-        )
+        epoch = epoch_of("epoch 1 0 5\nroot -5 0 0 2 1 1\nsplit 0 0\nedge 1 0 0\nedge 2 0 0\ndone 1\n")
         assert [kept.box[::3] for kept in epoch.kept] == [(-5, -2), (-1, 2)]
 
     def test_the_time_is_a_date(self):
@@ -44,12 +40,7 @@ class TestLogs:
 
     def test_a_log_that_was_cut_is_refused(self):
         whole = HEAD + PAVED
-        for cut in (
-            whole[: whole.index("done")],
-            whole[:-1],
-            whole[: whole.index("root")],
-            whole[:-30],
-        ):
+        for cut in (whole[: whole.index("done")], whole[:-1], whole[: whole.index("root")], whole[:-30]):
             with pytest.raises(Error, match="ends within an epoch"):
                 epochs_of(cut[len(HEAD) :])
 
@@ -60,11 +51,7 @@ class TestLogs:
             for row in (place, place + " -80 70")
         )
         for row in plain, mapped:
-            assert (row.place, row.range, row.error) == (
-                ((1, 2), (3, 4), (5, 6)),
-                (7, 8),
-                (-90, 100),
-            )
+            assert (row.place, row.range, row.error) == (((1, 2), (3, 4), (5, 6)), (7, 8), (-90, 100))
         assert (plain.sure, mapped.sure) == ((-90, 100), (-80, 70))
 
     def test_renewed_rows_are_in_use_behind_their_renewal(self):
@@ -72,21 +59,14 @@ class TestLogs:
         assert [row.satellite for row in epoch.rows] == ["G01", "G02", "G03", "G05"]
         assert [row.error[1] for row in epoch.rows] == [5000000, 50000000, 50000000, 5000000]
         (renewal,) = epoch.renewals
-        assert (renewal.steps, renewal.box) == (
-            2,
-            (-6000000, -1000000, -1000000, 6250000, 1000000, 1000000),
-        )
+        assert (renewal.steps, renewal.box) == (2, (-6000000, -1000000, -1000000, 6250000, 1000000, 1000000))
         assert [row.error[1] for row in renewal.rows] == [1000000, 50000000, 50000000, 1000000]
         (kept,) = epoch.kept
         assert kept.box == (-1000000, -1000000, -1000000, 1000000, 1000000, 1000000)
         assert kept.rows is renewal.rows
 
     def test_boxes_have_the_rows_that_were_in_use_where_they_were_closed(self):
-        text = (
-            RENEWED.read_text()
-            .replace("renew", "split 0 1\nedge 1 0 0\nrenew")
-            .replace("edge 0", "edge 2", 1)
-        )
+        text = RENEWED.read_text().replace("renew", "split 0 1\nedge 1 0 0\nrenew").replace("edge 0", "edge 2", 1)
         lines = text.replace("\ncut 0 0 -1000000\ncut 0 1 1000000", "").splitlines(keepends=True)
         again = [*lines[:-2], *lines[12:17], lines[-2], lines[-1]]
         for lines, at in (lines, [0]), (again, [1]):

@@ -70,9 +70,7 @@ def made(log, out, *words):
 def ends_of(packed):
     """The boxes of the page in m from the low corner of their hull."""
     ends = struct.unpack(f"<{6 * sum(packed['counts'])}H", b64decode(packed["ends"]))
-    return [
-        [ends[k + j] * packed["steps"][j % 3] for j in range(6)] for k in range(0, len(ends), 6)
-    ]
+    return [[ends[k + j] * packed["steps"][j % 3] for j in range(6)] for k in range(0, len(ends), 6)]
 
 
 class TestParts:
@@ -81,18 +79,13 @@ class TestParts:
             found = region.region_of(epoch)
             packed = json.loads(page.packed_boxes(epoch, found))
             hull = region.hull_of([kept.box for kept in epoch.kept])
-            boxes = [
-                kept.box for inner in (False, True) for kept in epoch.kept if kept.inner == inner
-            ]
+            boxes = [kept.box for inner in (False, True) for kept in epoch.kept if kept.inner == inner]
             assert sum(packed["counts"]) == len(boxes)
             for box, drawn in zip(boxes, ends_of(packed)):
                 for k in range(3):
                     low, high = ((box[j] - hull[k]) / 1e6 for j in (k, k + 3))
                     room = (hull[k + 3] - hull[k]) / 1e6 / 65535 + 2e-6
-                    assert (
-                        low - room <= drawn[k] <= low + 1e-9
-                        and high - 1e-9 <= drawn[k + 3] <= high + room
-                    )
+                    assert low - room <= drawn[k] <= low + 1e-9 and high - 1e-9 <= drawn[k + 3] <= high + room
 
     def test_the_outline_is_that_of_the_corners_of_all_boxes(self):
         for log in (RECEIVER, VEHICLE):
@@ -108,10 +101,7 @@ class TestParts:
                         at = [(end - round(o * 1e6)) / 1e6 for end, o in zip(corner, found.origin)]
                         x, y = geodesy.dot(at, right), geodesy.dot(at, upward)
                         # on the left of each side, or on it
-                        assert all(
-                            (c - a) * (y - b) - (d - b) * (x - a) > -1e-6
-                            for (a, b), (c, d) in sides
-                        )
+                        assert all((c - a) * (y - b) - (d - b) * (x - a) > -1e-6 for (a, b), (c, d) in sides)
 
     def test_groups_hold_each_box(self):
         boxes = [kept.box for kept in next(read_epochs(RECEIVER)).kept]
@@ -121,8 +111,7 @@ class TestParts:
         assert 1 < len(groups) <= 20
         for box in boxes:
             assert any(
-                all(g <= b for g, b in zip(group[:3], box))
-                and all(g >= b for g, b in zip(group[3:], box[3:]))
+                all(g <= b for g, b in zip(group[:3], box)) and all(g >= b for g, b in zip(group[3:], box[3:]))
                 for group in groups
             )
 
@@ -176,9 +165,7 @@ class TestParts:
         # and 16,000 - 6378.137 km above
         sky = json.loads(page.detail(empty, None, "empty"))["satellites"]
         high = round(math.degrees(math.atan2(16000 - 6378.137, 12000)), 2)
-        assert [row[:2] for row in sky] == [["G11", 90.0]] + [
-            [f"G{k}", high] for k in (12, 13, 14, 15)
-        ]
+        assert [row[:2] for row in sky] == [["G11", 90.0]] + [[f"G{k}", high] for k in (12, 13, 14, 15)]
         assert [row[2] for row in sky[1:]] == [90.0, 0.0, 270.0, 180.0]
         assert [row[3:] for row in sky[:2]] == [[-7.0, 59.0, -7.0, 59.0], [-7.0, 59.0, -6.0, 50.0]]
         # x from the middle on, y from -5 m on: east from -7.5 to 7.5 m of the middle, north from
@@ -187,9 +174,7 @@ class TestParts:
         for ring, sides in zip(outlines, ((15, 20), (15, 10), (20, 10))):
             assert len(ring) == 4
             for k, side in enumerate(sides):
-                assert max(it[k] for it in ring) - min(it[k] for it in ring) == pytest.approx(
-                    side, rel=0, abs=5e-3
-                )
+                assert max(it[k] for it in ring) - min(it[k] for it in ring) == pytest.approx(side, rel=0, abs=5e-3)
 
     def test_the_azimuth(self):
         place = geodesy.earth_fixed(0.6, 2.4, 100.0)
@@ -197,8 +182,7 @@ class TestParts:
         for degrees in (0, 75, 190, 359):
             turn = math.radians(degrees)
             target = [
-                p + 2e7 * (math.sin(turn) * e + math.cos(turn) * n + u)
-                for p, e, n, u in zip(place, east, north, up)
+                p + 2e7 * (math.sin(turn) * e + math.cos(turn) * n + u) for p, e, n, u in zip(place, east, north, up)
             ]
             assert (math.degrees(geodesy.azimuth(place, target)) + 1) % 360 == pytest.approx(
                 (degrees + 1) % 360, rel=0, abs=5e-7
@@ -231,12 +215,7 @@ class TestParts:
                 made(RECEIVER, "never.html")
 
     def test_wrong_words(self):
-        for words in (
-            ["log"],
-            ["a", "b"],
-            ["a", "b.html", "--from", "0"],
-            ["a", "b.html", "--to", "x"],
-        ):
+        for words in (["log"], ["a", "b"], ["a", "b.html", "--from", "0"], ["a", "b.html", "--to", "x"]):
             assert ended_with(page, *words)[0] == 2, words
 
 
@@ -254,9 +233,7 @@ class TestFiles:
 
     def data_of(self, text):
         """The data in a page."""
-        return json.loads(
-            re.search('<script type="application/json" id="data">\n(.*)\n</script>', text)[1]
-        )
+        return json.loads(re.search('<script type="application/json" id="data">\n(.*)\n</script>', text)[1])
 
     def test_a_log_that_was_cut_gets_a_page_of_what_is_whole(self):
         text, line = self.page_of(MADE[:-30])
@@ -283,12 +260,7 @@ class TestInTheBrowser:
         Path(cls.room, "made.log").write_text(MADE, newline="\n")
         cls.logs = {"vehicle": VEHICLE, "receiver": RECEIVER, "made": Path(cls.room, "made.log")}
         for name, log in cls.logs.items():
-            made(
-                log,
-                f"{cls.room}/{name}.html",
-                "--settings",
-                str(EXAMPLES / "settings.toml"),
-            )
+            made(log, f"{cls.room}/{name}.html", "--settings", str(EXAMPLES / "settings.toml"))
         cls.browser = chromium.Browser(1280, 900)
 
     @classmethod
@@ -301,11 +273,7 @@ class TestInTheBrowser:
         self.browser.faults.clear()
         self.browser.requests.clear()
         self.browser.open(f"{self.room}/{name}.html", part)
-        elsewhere = [
-            it
-            for it in self.browser.requests
-            if not it.startswith(("file:", "data:", "blob:", "about:"))
-        ]
+        elsewhere = [it for it in self.browser.requests if not it.startswith(("file:", "data:", "blob:", "about:"))]
         assert (self.browser.faults, elsewhere) == ([], [])
 
     def run_js(self, script):
@@ -321,17 +289,13 @@ class TestInTheBrowser:
         for name, log in self.logs.items():
             self.open(name)
             lines = []
-            totals = summary.summarize(
-                log, lambda *epoch: lines.append(summary.text_line(*epoch[:3]).split())
-            )
+            totals = summary.summarize(log, lambda *epoch: lines.append(summary.text_line(*epoch[:3]).split()))
             rows = self.run_js(
                 "[...document.querySelectorAll('#table tbody tr')].map((row) =>"
                 " [...row.cells].map((cell) => cell.textContent).join(' '))"
             )
             assert [row.split() for row in rows] == lines
-            said = self.run_js(
-                "[...document.querySelectorAll('#lines li')].map((it) => it.textContent)"
-            )
+            said = self.run_js("[...document.querySelectorAll('#lines li')].map((it) => it.textContent)")
             lines = [totals.line(), *(f"warning: {each}" for each in totals.warnings())]
             assert said[-len(lines) :] == lines
 
@@ -339,9 +303,7 @@ class TestInTheBrowser:
         for name in ("receiver", "vehicle"):
             self.open(name)
             for k, epoch in enumerate(self.epochs(name)):
-                self.run_js(
-                    f"document.querySelectorAll('#table tbody tr')[{k}].querySelector('button').click()"
-                )
+                self.run_js(f"document.querySelectorAll('#table tbody tr')[{k}].querySelector('button').click()")
                 assert self.title() == f"Epoch {epoch.index}, {calendar(epoch.ps)} GPS time"
                 if not epoch.kept:
                     assert self.run_js("document.getElementById('solid').hidden")
@@ -395,13 +357,8 @@ class TestInTheBrowser:
         self.run_js("document.getElementById('behind').click()")
         assert self.title().startswith(f"Epoch {epochs[4].index},")
         assert self.run_js("location.hash") == f"#epoch={epochs[4].index}"
-        self.run_js(
-            "document.getElementById('number').value = '99999'; document.querySelector('#go button').click()"
-        )
-        assert (
-            self.run_js("document.getElementById('gone').textContent")
-            == "The page has no epoch 99999."
-        )
+        self.run_js("document.getElementById('number').value = '99999'; document.querySelector('#go button').click()")
+        assert self.run_js("document.getElementById('gone').textContent") == "The page has no epoch 99999."
 
     def test_a_click_on_the_time_line(self):
         self.open("receiver")
@@ -422,21 +379,9 @@ class TestInTheBrowser:
             self.run_js("document.querySelector('#skips li').textContent")
             == "G06: its ephemeris is out of bounds (field 2)"
         )
-        assert self.run_js("document.getElementById('sky').data[0].text") == [
-            "G11",
-            "G12",
-            "G13",
-            "G14",
-            "G15",
-        ]
+        assert self.run_js("document.getElementById('sky').data[0].text") == ["G11", "G12", "G13", "G14", "G15"]
         assert self.run_js("document.querySelectorAll('#satellites th').length") == 7
-        wanted = {
-            "few": ["1"],
-            "empty": ["2"],
-            "reaches": ["4"],
-            "region": ["4"],
-            "all": ["1", "2", "4"],
-        }
+        wanted = {"few": ["1"], "empty": ["2"], "reaches": ["4"], "region": ["4"], "all": ["1", "2", "4"]}
         for mark, numbers in wanted.items():
             shown = self.run_js(
                 f"(() => {{ const it = document.getElementById('filter'); it.value = '{mark}';"
@@ -447,9 +392,7 @@ class TestInTheBrowser:
         # the line of the time line has a gap at the number that is left out
         assert self.run_js("document.getElementById('time').data[4].y") == [4, 5, None, 5]
         assert "from 2 to 4" in self.run_js("document.getElementById('notes-list').textContent")
-        assert "bisections = 512, and the log has 10" in self.run_js(
-            "document.getElementById('lines').textContent"
-        )
+        assert "bisections = 512, and the log has 10" in self.run_js("document.getElementById('lines').textContent")
 
     def test_a_wide_and_a_narrow_window(self):
         for name in self.logs:
@@ -484,25 +427,19 @@ class TestInTheBrowser:
         )
 
     def test_what_is_thinned_out_is_said(self):
-        with mock.patch.object(
-            page, "PAGE_LIMIT", os.path.getsize(f"{self.room}/receiver.html") - 20_000
-        ):
+        with mock.patch.object(page, "PAGE_LIMIT", os.path.getsize(f"{self.room}/receiver.html") - 20_000):
             said = made(RECEIVER, f"{self.room}/thin.html")
         assert re.search(r"^page: the boxes are those of one epoch in 2", said)
         self.open("thin", f"#epoch={self.epochs('receiver')[1].index}")
         number = self.epochs("receiver")[1].index
-        assert f"--from {number} --to {number}" in self.run_js(
-            "document.getElementById('boxes-say').textContent"
-        )
+        assert f"--from {number} --to {number}" in self.run_js("document.getElementById('boxes-say').textContent")
         assert self.run_js("document.getElementById('solid').hidden")
 
     def test_no_epochs(self):
         Path(self.room, "none.log").write_text(HEAD, newline="\n")
         made(f"{self.room}/none.log", f"{self.room}/none.html")
         self.open("none")
-        assert "the log has no epochs" in self.run_js(
-            "document.getElementById('lines').textContent"
-        )
+        assert "the log has no epochs" in self.run_js("document.getElementById('lines').textContent")
 
     def test_without_webgl_all_else_is_there(self):
         with chromium.Browser(1280, 900, ("--disable-3d-apis",)) as plain:

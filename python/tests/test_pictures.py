@@ -5,16 +5,7 @@ import tempfile
 from pathlib import Path
 
 import pytest
-from made_logs import (
-    HEAD,
-    LOST,
-    PAVED,
-    RECORDED,
-    TUBE,
-    ended_with,
-    epoch_of,
-    written,
-)
+from made_logs import HEAD, LOST, PAVED, RECORDED, TUBE, ended_with, epoch_of, written
 
 from gpscover import Error, pictures, places, region
 from gpscover.log import epochs as read_epochs
@@ -27,8 +18,7 @@ def area(polygon):
 
 
 def shadow(box, across):
-    """The area of a box as seen along a unit vector: each of three faces times how far it is
-    turned."""
+    """The area of a box as seen along a unit vector: each of three faces times how far it is turned."""
     x, y, z = (2 * half for half in region.half_sides(box))
     return y * z * abs(across[0]) + x * z * abs(across[1]) + x * y * abs(across[2])
 
@@ -42,25 +32,19 @@ class TestPictures:
             for first, second, across in ((east, north, up), (east, up, north)):
                 drawn = pictures.box_polygons(boxes, found.origin, first, second)
                 for box, polygon in zip(boxes, drawn):
-                    assert area(polygon.tolist()) == pytest.approx(
-                        shadow(box, across), rel=0, abs=5e-4
-                    )
+                    assert area(polygon.tolist()) == pytest.approx(shadow(box, across), rel=0, abs=5e-4)
 
     def test_the_drawn_boxes_reach_as_far_as_the_extents(self):
         for epoch in read_epochs(RECORDED / "ubx_2008.log"):
             found = region.region_of(epoch)
-            drawn = pictures.box_polygons(
-                [kept.box for kept in epoch.kept], found.origin, found.axes[0], found.axes[2]
-            )
+            drawn = pictures.box_polygons([kept.box for kept in epoch.kept], found.origin, found.axes[0], found.axes[2])
             for k, extent in ((0, found.extents[0]), (1, found.extents[2])):
                 assert drawn[..., k].min() == pytest.approx(extent[0], rel=0, abs=5e-6)
                 assert drawn[..., k].max() == pytest.approx(extent[1], rel=0, abs=5e-6)
 
     def test_both_panels_have_one_scale(self):
         pyplot, _ = pictures.tools()
-        figure, both = pictures.panels_at_one_scale(
-            pyplot, {"east": (-20, 30), "north": (-60, 10), "up": (-5, 110)}
-        )
+        figure, both = pictures.panels_at_one_scale(pyplot, {"east": (-20, 30), "north": (-60, 10), "up": (-5, 110)})
         size = figure.get_size_inches()
         scales = []
         for axes, tall in zip(both, (70, 115)):
@@ -93,9 +77,7 @@ class TestPictures:
 
     def test_the_title_has_the_extents(self):
         epoch = epoch_of(PAVED)
-        assert "east 200.0 m, north 200.0 m, up 100.0 m" in pictures.region_title(
-            epoch, region.region_of(epoch)
-        )
+        assert "east 200.0 m, north 200.0 m, up 100.0 m" in pictures.region_title(epoch, region.region_of(epoch))
 
     def test_an_epoch_without_a_region_is_refused(self):
         with pytest.raises(Error, match="it is empty"):
@@ -118,9 +100,7 @@ class TestPicturedZones:
         found = self.fenced(TUBE + LOST + "few 4 895816774999000000000 3\n")
         # Round the middle of the first region, at y = 25 m and z = 0: y is east, z is north.
         ring = found.ring_of(found.fences[0])
-        assert {(round(x), round(y)) for x, y in ring} == {
-            (x, y) for x in (-45, -5) for y in (-30, 30)
-        }
+        assert {(round(x), round(y)) for x, y in ring} == {(x, y) for x in (-45, -5) for y in (-30, 30)}
         assert found.ring_of(found.fences[1]) == []
         # The first box shares the face y = 20 m with a, the second holds a part of it, and in the
         # third epoch there is none.
@@ -144,9 +124,7 @@ class TestPicturedTracks:
     def test_its_outlines_places_and_the_search_box_where_it_is_lost(self):
         tube = self.tube(TUBE + LOST, [(895816770999 * 10**9, (6378137.0, 28.0, 4.0))])
         # Round the middle of the first region, at y = 25 m and z = 0: y is east, z is north.
-        for ring, (east, north) in zip(
-            [*tube.rings, tube.lost[1]], ((5, 10), (10, 15), (15, 20)), strict=True
-        ):
+        for ring, (east, north) in zip([*tube.rings, tube.lost[1]], ((5, 10), (10, 15), (15, 20)), strict=True):
             corners = sorted((round(x, 2), round(y, 2)) for x, y in ring)
             assert corners == [(x, y) for x in (-east, east) for y in (-north, north)]
         assert [[round(part, 2) for part in place] for place in tube.known] == [[3, 4]]
@@ -158,11 +136,7 @@ class TestPicturedTracks:
         tube = pictures.Tube(places.Meetings(None, []))
         for count, first, drawn in ((60, 0, 60), (61, 0, 31), (62, 1, 31), (312, 5, 52)):
             tube.rings = list(range(count))
-            assert (tube.drawn()[0], tube.drawn()[-1], len(tube.drawn())) == (
-                first,
-                count - 1,
-                drawn,
-            )
+            assert (tube.drawn()[0], tube.drawn()[-1], len(tube.drawn())) == (first, count - 1, drawn)
 
     def test_a_log_without_a_region_is_refused(self):
         with pytest.raises(Error, match="has no region to draw"):

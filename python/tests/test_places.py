@@ -18,10 +18,7 @@ class TestPlaces:
 
     def test_both_forms(self):
         both = self.read("% a head\n2008/05/26 05:59:30.000 1.5 -2 3 5 8\n\n895816771.25 4 5 6\n")
-        assert both == [
-            (895816770 * 10**12, (1.5, -2.0, 3.0)),
-            (895816771250 * 10**9, (4.0, 5.0, 6.0)),
-        ]
+        assert both == [(895816770 * 10**12, (1.5, -2.0, 3.0)), (895816771250 * 10**9, (4.0, 5.0, 6.0))]
         assert places.place_at(both, 895816769999 * 10**9) == (1.5, -2.0, 3.0)
         assert places.place_at(both, 895816769800 * 10**9) is None
 

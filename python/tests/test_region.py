@@ -25,9 +25,7 @@ class TestExtents:
     def test_a_box_that_lies_askew(self):
         half = math.sqrt(0.5)
         # longitude 45 degrees: east is (y - x) and up is (x + y), each by the root of 2
-        self.assert_widths(
-            box_at((6378137 * half, 6378137 * half, 0), (100, 100, 60)), 200 * half, 60, 200 * half
-        )
+        self.assert_widths(box_at((6378137 * half, 6378137 * half, 0), (100, 100, 60)), 200 * half, 60, 200 * half)
         # latitude 45 degrees: north is (z - x) and up is (x + z), each by the root of 2
         place = geodesy.earth_fixed(math.pi / 4, 0, 0)
         self.assert_widths(box_at(place, (100, 30, 60)), 30, 160 * half, 160 * half)
@@ -58,9 +56,7 @@ class TestExtents:
             assert math.degrees(found[1]) == pytest.approx(degrees[1], rel=0, abs=5e-10)
             assert found[2] == pytest.approx(degrees[2], rel=0, abs=5e-6)
         # the pole is the semi-minor axis, 6356752.3142 m, away
-        assert geodesy.earth_fixed(math.pi / 2, 0, 0)[2] == pytest.approx(
-            6356752.3142, rel=0, abs=5e-5
-        )
+        assert geodesy.earth_fixed(math.pi / 2, 0, 0)[2] == pytest.approx(6356752.3142, rel=0, abs=5e-5)
 
     def test_the_outline_of_a_cube_askew_is_a_square(self):
         half = math.sqrt(0.5)

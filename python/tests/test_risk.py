@@ -21,8 +21,7 @@ def said(*words):
 
 
 def by_outcomes(chances, outliers):
-    """The probability that more than so many events come, from all outcomes of independent
-    events."""
+    """The probability that more than so many events come, from all outcomes of independent events."""
     total = Fraction(0)
     for outcome in itertools.product((True, False), repeat=len(chances)):
         if sum(outcome) > outliers:
@@ -48,9 +47,7 @@ class TestChances:
         p = Fraction(3, 100)
         for satellites in range(1, 8):
             for outliers in range(satellites):
-                assert risk.chance_of_more(satellites, outliers, p) == by_outcomes(
-                    [p] * satellites, outliers
-                )
+                assert risk.chance_of_more(satellites, outliers, p) == by_outcomes([p] * satellites, outliers)
 
     def test_smaller_probabilities_of_some_satellites_make_it_no_greater(self):
         p = Fraction(1, 10)
@@ -126,21 +123,13 @@ class TestAnswers:
         with tempfile.TemporaryDirectory() as room:
             path = os.path.join(room, "made.log")
             Path(path).write_text(text, newline="\n")
-            by_log, other = said("--log", path, "--p", "1/10"), said(
-                "--log", path, "--p", "1/10", "--q", "0"
-            )
+            by_log, other = said("--log", path, "--p", "1/10"), said("--log", path, "--p", "1/10", "--q", "0")
         # five of one in ten, more than 1: 1 - 0.9^5 - 5 * 0.1 * 0.9^4 = 0.08146, and twice that is
         # 0.16292
-        assert [line.split() for line in by_log[1:3]] == [
-            ["1", "4", "1", "5.23e-2", "few"],
-            ["2", "5", "1", "8.15e-2"],
-        ]
+        assert [line.split() for line in by_log[1:3]] == [["1", "4", "1", "5.23e-2", "few"], ["2", "5", "1", "8.15e-2"]]
         assert by_log[3].startswith("in 2 epochs without a mark: at most 1.63e-1 ")
         # q = 0: 1 - 0.9^4 = 0.3439 and 1 - 0.9^5 = 0.40951; the sum is over 1
-        assert [line.split() for line in other[1:3]] == [
-            ["1", "4", "0", "3.44e-1"],
-            ["2", "5", "0", "4.10e-1"],
-        ]
+        assert [line.split() for line in other[1:3]] == [["1", "4", "0", "3.44e-1"], ["2", "5", "0", "4.10e-1"]]
         assert other[3].startswith("in 3 epochs without a mark: at most 1.00e+0 ")
 
     def test_a_recorded_log(self):

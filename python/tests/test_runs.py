@@ -89,3 +89,25 @@ def test_what_is_no_verdict_is_an_error(tmp_path):
         stub.chmod(0o755)
         with pytest.raises(gpscover.ProgramError):
             runs.judge("a.log", program=stub)
+
+
+def test_a_station_beside_the_receiver(tmp_path):
+    pair = EXAMPLES / "station"
+    text = (pair / "settings.toml").read_text(encoding="utf-8")
+    text = re.sub(r"(?m)^bisections = .*", "bisections = 8", text) + "\n[motion]\nspeed = 0\n"
+    settings = gpscover.Settings.from_toml(text)
+    files = pair / "receiver.obs", pair / "receiver.nav", settings
+    ways = {"station": pair / "station.obs", "last": 2}
+    report = gpscover.solve(*files, tmp_path / "pair.log", **ways)
+    boxes = sum(len(epoch.kept) for epoch in report.log)
+    assert gpscover.check(*files, tmp_path / "pair.log", **ways) == gpscover.Verdict(True, boxes)
+    assert gpscover.track(*files, tmp_path / "still.log", **ways).lost is None
+    assert gpscover.retrack(*files, tmp_path / "still.log", **ways).yes
+    zones = tmp_path / "up.zones"
+    zones.write_text("gpszones 2\nreach up 0 0 1\n", encoding="ascii")
+    assert len(gpscover.guard(*files, zones, tmp_path / "pair.log", **ways)) == 3
+    for name, role, number in (("receiver.nav", "station", 12), (None, "settings", 33)):
+        ways["station"] = name and pair / name
+        with pytest.raises(gpscover.Refused) as refused:
+            gpscover.check(*files, tmp_path / "pair.log", **ways)
+        assert (refused.value.role, refused.value.number) == (role, number)

@@ -5,7 +5,7 @@ from hypothesis import given
 from hypothesis import strategies as st
 from made_logs import EXAMPLES
 
-from gpscover.settings import Bounds, Galileo, Search, Settings, SettingsError, Signal
+from gpscover.settings import Bounds, Galileo, Search, Settings, SettingsError, Signal, Station
 
 LENGTH = st.integers(-(10**6), 10**6)
 PAIR = st.tuples(LENGTH, LENGTH).map(lambda ends: (min(ends), max(ends)))
@@ -19,9 +19,7 @@ SEARCHES = st.builds(
     centre=st.one_of(st.just("header"), THREE),
     renew=st.one_of(st.none(), st.booleans()),
 )
-BOUNDS = st.builds(
-    Bounds, receiver=PAIR, orbit_clock=PAIR, ionosphere=PAIR, troposphere=PAIR, zenith=st.none()
-)
+BOUNDS = st.builds(Bounds, receiver=PAIR, orbit_clock=PAIR, ionosphere=PAIR, troposphere=PAIR, zenith=st.none())
 SETTINGS = st.builds(
     Settings,
     search=SEARCHES,
@@ -30,6 +28,9 @@ SETTINGS = st.builds(
     galileo=st.one_of(st.none(), st.builds(Galileo, codes=CODES, offset=PAIR)),
     speed=st.one_of(st.none(), st.integers(0, 10**6)),
     satellites=st.dictionaries(st.sampled_from(["G01", "G32", "E05"]), PAIR),
+    station=st.one_of(
+        st.none(), st.builds(Station, place=st.one_of(st.just("header"), THREE), age=st.integers(1, 600))
+    ),
 )
 
 
@@ -53,6 +54,7 @@ def test_the_example_s():
         "search = 1\n",
         "[more]\n",
         "[search]\nhalf = 1\n[signal]\n[bounds]\n",
+        "[search]\nhalf = 1\n[signal]\n[bounds]\n[station]\nage = 30\n",
         "[search]\nhalf = nan\n[signal]\n[bounds]\n",
         "[search]\nhalf = {}\n[signal]\n[bounds]\n",
         "[search]\nhalf = 1979-05-27\n[signal]\n[bounds]\n",

@@ -6,20 +6,7 @@ import re
 from xml.etree import ElementTree
 
 import pytest
-from made_logs import (
-    HEAD,
-    LOST,
-    PAVED,
-    ROOT,
-    TUBE,
-    WITHIN,
-    box_at,
-    ended_with,
-    epoch_of,
-    totals_of,
-    tube_root,
-    written,
-)
+from made_logs import HEAD, LOST, PAVED, ROOT, TUBE, WITHIN, box_at, ended_with, epoch_of, totals_of, tube_root, written
 
 from gpscover import Error, kml, region, summary
 
@@ -34,22 +21,17 @@ class TestMarks:
 
     def test_few_near_the_centre_of_the_earth(self):
         _, lines = totals_of("few 1 0 0\nskip G01 7\nskip G02 7\nskip G03 6 2\n")
-        assert (
-            "2 times a satellite isn't used since the search box comes too near to the earth"
-            in lines[1]
-        )
+        assert "2 times a satellite isn't used since the search box comes too near to the earth" in lines[1]
         assert "is the position in the header zero, or search.centre in metres?" in lines[1]
 
     def test_every_reason_of_a_skip_has_words(self):
-        for reason in ("1", "2", "3", "4", "5", "6 20", "7"):
+        for reason in ("1", "2", "3", "4", "5", "6 20", "7", "8", "9"):
             _, lines = totals_of(f"few 1 0 0\nskip G01 {reason}\n")
             assert "1 times a satellite isn't used since " in lines[1]
 
     def test_no_galileo_satellite_is_used(self):
         paved = (
-            "epoch 1 0 5\nsat G01 1 1 1 1 1 1 1 1 0 0\nskip E01 3\nskip E02 3\nskip E03 1\n"
-            + ROOT
-            + "out 0\ndone 0\n"
+            "epoch 1 0 5\nsat G01 1 1 1 1 1 1 1 1 0 0\nskip E01 3\nskip E02 3\nskip E03 1\n" + ROOT + "out 0\ndone 0\n"
         )
         _, lines = totals_of(paved)
         assert lines[-1] == (
@@ -93,21 +75,11 @@ class TestMarks:
             + f"epoch 3 9 5\n{ROOT}out 0\ndone 0\n"
             + WITHIN.replace("epoch 1", "epoch 4")
         )
-        assert (
-            lines[0] == "epochs 4: 2 with a region, of which 1 reach the search box; 1 few, 1 empty"
-        )
-        assert (
-            "1 of 4 epochs have too few usable satellites; 1 times a satellite isn't used since none"
-            in lines[1]
-        )
+        assert lines[0] == "epochs 4: 2 with a region, of which 1 reach the search box; 1 few, 1 empty"
+        assert "1 of 4 epochs have too few usable satellites; 1 times a satellite isn't used since none" in lines[1]
         assert "1 of 3 paved epochs are empty: more satellites than allowed broke" in lines[2]
-        assert (
-            "a box that a receiver leaves makes its regions small before they are empty" in lines[2]
-        )
-        assert (
-            "1 of 2 regions reach the search box, whose half side is 100 m: they may go on outside"
-            in lines[3]
-        )
+        assert "a box that a receiver leaves makes its regions small before they are empty" in lines[2]
+        assert "1 of 2 regions reach the search box, whose half side is 100 m: they may go on outside" in lines[3]
         assert len(lines) == 4
 
     def test_a_track_that_is_lost(self):
@@ -123,13 +95,9 @@ class TestMarks:
     def test_how_many_epochs_of_a_file_the_log_covers(self):
         line = "> 2008 05 26 05 59 {}.0000000  {}  1\n"
         obs = "".join(
-            line.format(second, flag) + "G01\n"
-            for second, flag in ((30, 0), (31, 4), (31, 0), (32, 1), (33, 0))
+            line.format(second, flag) + "G01\n" for second, flag in ((30, 0), (31, 4), (31, 0), (32, 1), (33, 0))
         )
-        with written(obs=obs, lost=HEAD + TUBE + LOST, tube=HEAD + TUBE, none=HEAD) as (
-            path,
-            *logs,
-        ):
+        with written(obs=obs, lost=HEAD + TUBE + LOST, tube=HEAD + TUBE, none=HEAD) as (path, *logs):
             said = [ended_with(summary, log, "--obs", path)[1] for log in logs]
         for text, covered in zip(
             said,
@@ -154,10 +122,7 @@ class TestMarks:
 
     def test_search_boxes_apart_are_no_track(self):
         apart = tube_root(6378037, -101, -100, 6378237, 100, 100)
-        assert totals_of(WITHIN + "epoch 2 1 5\n" + apart + "edge 0 0 0\ndone 0\n")[0] == [
-            "",
-            "reaches",
-        ]
+        assert totals_of(WITHIN + "epoch 2 1 5\n" + apart + "edge 0 0 0\ndone 0\n")[0] == ["", "reaches"]
         assert totals_of(WITHIN + "epoch 2 1 5\n" + apart + "out 0\ndone 0\n")[0] == ["", "empty"]
 
     def test_a_centre_in_metres(self):
@@ -166,10 +131,7 @@ class TestMarks:
         assert "is search.centre in metres, where millimetres are meant?" in lines[1]
 
     def test_a_log_of_no_epochs_asks_for_the_first_one(self):
-        assert (
-            "the log has no epochs: is --from behind the last one of the file?"
-            in totals_of("")[1][1]
-        )
+        assert "the log has no epochs: is --from behind the last one of the file?" in totals_of("")[1][1]
 
     def test_strict_ends_with_a_status_of_its_own(self):
         with written(good=HEAD + WITHIN, cut=HEAD + PAVED, none=HEAD) as (good, cut, none):
@@ -183,9 +145,7 @@ class TestMarks:
 
     def test_the_mark_of_the_values_is_ok_where_there_is_none(self):
         with written(good=HEAD + WITHIN, cut=HEAD + PAVED) as logs:
-            marks = [
-                ended_with(summary, log, "--csv")[1].splitlines()[1].split(",")[3] for log in logs
-            ]
+            marks = [ended_with(summary, log, "--csv")[1].splitlines()[1].split(",")[3] for log in logs]
         assert marks == ["ok", "reaches"]
 
     def test_the_box_round_all_kept_boxes(self):
@@ -193,10 +153,7 @@ class TestMarks:
         for text in (PAVED, box_at((6378000, 1, 2), (0.002, 0.002, 0.0025))):
             totals.add(epoch_of(text), "")
         # x from 6377999.999 to 6378237, y from -100 to 100, z from -100 to 100, in mm
-        assert list(totals.box_lines()) == [
-            "centre = [6378118499, 0, 0]",
-            "half = [118501, 100000, 100000]",
-        ]
+        assert list(totals.box_lines()) == ["centre = [6378118499, 0, 0]", "half = [118501, 100000, 100000]"]
 
     def test_a_box_that_the_settings_would_refuse(self):
         wide = "epoch 1 0 5\nroot -100000000000 -9 -9 100000002000 9 9\nedge 0 0 0\ndone 0\n"
@@ -213,31 +170,18 @@ class TestMarks:
         epoch = epoch_of(PAVED)
         found = region.region_of(epoch)
         line = summary.text_line(epoch, found, "reaches")
-        assert re.search(
-            r"^ +1  2008-05-26 05:59:29\.999 +5 +1 +1 +200\.0 +200\.0 +100\.0 +16\.0 +3200000 ",
-            line,
-        )
+        assert re.search(r"^ +1  2008-05-26 05:59:29\.999 +5 +1 +1 +200\.0 +200\.0 +100\.0 +16\.0 +3200000 ", line)
         values = dict(zip(summary.COLUMNS, summary.csv_line(epoch, found, "reaches")))
         assert (values["clock_low_m"], values["clock_high_m"]) == ("-9.000", "7.000")
         assert (values["x_m"], values["faces"]) == ("6378187.000", "-y -z +x +y +z")
 
     def test_regions_for_a_map(self):
-        text = (
-            HEAD
-            + PAVED
-            + WITHIN.replace("epoch 1", "epoch 2")
-            + f"epoch 3 9 5\n{ROOT}out 0\ndone 0\nfew 4 10 2\n"
-        )
+        text = HEAD + PAVED + WITHIN.replace("epoch 1", "epoch 2") + f"epoch 3 9 5\n{ROOT}out 0\ndone 0\nfew 4 10 2\n"
         with written(log=text, map="") as (log, path):
             assert ended_with(summary, log, "--kml", path)[0] == 0
             document = ElementTree.parse(path).getroot()[0]
         marks = document.findall("{*}Placemark")
-        assert [mark.find("{*}styleUrl").text for mark in marks] == [
-            "#cut",
-            "#whole",
-            "#empty",
-            "#few",
-        ]
+        assert [mark.find("{*}styleUrl").text for mark in marks] == ["#cut", "#whole", "#empty", "#few"]
         assert {mark.find("{*}styleUrl").text[1:] for mark in marks} <= {
             style.get("id") for style in document.findall("{*}Style")
         }
@@ -249,23 +193,11 @@ class TestMarks:
         ]
         # 100 m east and north at the equator are 1 / 6378137 and 1 / 6335439 rad a metre; the boxes
         # are 0 to 100 m up
-        assert max(lon for lon, *_ in rings[0]) == pytest.approx(
-            math.degrees(100 / 6378137), rel=0, abs=5e-8
-        )
-        assert max(lat for _, lat, _ in rings[0]) == pytest.approx(
-            math.degrees(100 / 6335439), rel=0, abs=5e-8
-        )
+        assert max(lon for lon, *_ in rings[0]) == pytest.approx(math.degrees(100 / 6378137), rel=0, abs=5e-8)
+        assert max(lat for _, lat, _ in rings[0]) == pytest.approx(math.degrees(100 / 6335439), rel=0, abs=5e-8)
         assert [{round(height, 2) for *_, height in ring} for ring in rings] == [{0.0}, {100.0}]
-        assert (
-            "height 0.0 to 100.0 m, reaches the search box at -y"
-            in marks[0].find("{*}description").text
-        )
-        assert [mark.find("{*}MultiGeometry") is None for mark in marks] == [
-            False,
-            False,
-            True,
-            True,
-        ]
+        assert "height 0.0 to 100.0 m, reaches the search box at -y" in marks[0].find("{*}description").text
+        assert [mark.find("{*}MultiGeometry") is None for mark in marks] == [False, False, True, True]
 
     def test_utc_at_a_leap_second(self):
         # 2016-12-31 23:59:59 UTC was 17 s behind GPS time; 2017-01-01 00:00:00 UTC is 18 s behind

@@ -12,21 +12,20 @@ from gpscover import Box, suspects
 
 STUB = """#!/usr/bin/env python3
 import sys
+assert sys.argv[6:] in ([], ["--station", "c"])
 opened = "G03 = [-1000000, 1000000]" in open(sys.argv[4]).read()
 assert "outliers = 0" in open(sys.argv[4]).read()
 sats = "".join(f"sat G0{k} 0 0 0 0 0 0 0 0 0 0\\n" for k in (3, 4))
 for index in (1, 2):
     kept = "edge 0 0 0" if opened or index == 2 else "out 0"
     block = f"epoch {index} {index} 2\\n{sats}root 0 0 0 1 1 1\\n{kept}\\ndone 0\\n"
-    open(sys.argv[5], "a").write(("gpscover 1\\nrules 0 0 1000\\n" if index == 1 else "") + block)
+    open(sys.argv[5], "w" if index == 1 else "a").write(("gpscover 1\\nrules 0 0 1000\\n" if index == 1 else "") + block)
 """
 
 
 class TestSuspects:
     def test_a_pseudorange_that_is_too_long_is_named(self):
-        assert suspects.surely_broken(epoch_of(FAULTY + "edge 0 -1500000 1500000\ndone 0\n")) == [
-            "G05"
-        ]
+        assert suspects.surely_broken(epoch_of(FAULTY + "edge 0 -1500000 1500000\ndone 0\n")) == ["G05"]
 
     def test_none_is_named_where_all_can_fit(self):
         right = FAULTY.replace(str(2 * 10**13 + 10**9), str(2 * 10**13))
@@ -41,16 +40,12 @@ class TestSuspects:
     def test_what_is_surely_declared_names_no_satellite(self):
         # The five satellites all keep the widest of their bounds, whatever less is declared at
         # other points.
-        right = FAULTY.replace(str(2 * 10**13 + 10**9), str(2 * 10**13)).replace(
-            "500000\n", "500000 0 0\n"
-        )
+        right = FAULTY.replace(str(2 * 10**13 + 10**9), str(2 * 10**13)).replace("500000\n", "500000 0 0\n")
         epoch = epoch_of(right + "edge 0 -1500000 1500000\ndone 0\n")
         assert [row.sure for row in epoch.rows] == [(0, 0)] * 5
         assert suspects.surely_broken(epoch) == []
         faulty = FAULTY.replace("500000\n", "500000 500000 -500000\n")
-        assert suspects.surely_broken(epoch_of(faulty + "edge 0 -1500000 1500000\ndone 0\n")) == [
-            "G05"
-        ]
+        assert suspects.surely_broken(epoch_of(faulty + "edge 0 -1500000 1500000\ndone 0\n")) == ["G05"]
 
     def test_the_rows_in_use_tell(self):
         # By the rows of the root, whose errors are 2 km, each satellite can keep its bounds; by
@@ -66,18 +61,18 @@ class TestSuspects:
         ):
             assert suspects.surely_broken(epoch_of(text, head)) == broken
 
+    def test_with_a_station_it_is_one_of_two_receivers(self):
+        epoch = epoch_of(FAULTY + "edge 0 -1500000 1500000\ndone 0\n")
+        line = suspects.log_line(epoch, suspects.AT_EITHER)
+        assert line.endswith(" broke their bounds at the receiver or the station: G05")
+
     def test_an_empty_epoch_says_so(self):
-        assert "empty: more than 1 satellites" in suspects.log_line(
-            epoch_of(FAULTY + "out 0\ndone 0\n")
-        )
+        assert "empty: more than 1 satellites" in suspects.log_line(epoch_of(FAULTY + "out 0\ndone 0\n"))
 
     def test_opening_changes_one_satellite(self):
         settings = "[search]\noutliers = 1\n[satellite]\nG03 = [0, 5]\nG04 = [1, 2] # seen\n"
         opened = suspects.with_opened(suspects.with_no_outliers(settings), "G03")
-        assert (
-            opened
-            == "[search]\noutliers = 0\n[satellite]\nG03 = [-1000000, 1000000]\nG04 = [1, 2] # seen\n"
-        )
+        assert opened == "[search]\noutliers = 0\n[satellite]\nG03 = [-1000000, 1000000]\nG04 = [1, 2] # seen\n"
         assert "[satellite]\nG07 = [" in suspects.with_opened("[search]\noutliers = 0\n", "G07")
 
     def test_opening_the_offset_of_galileo(self):
@@ -92,11 +87,9 @@ class TestSuspects:
             stub = os.path.join(room, "stub")
             Path(stub).write_text(STUB)
             os.chmod(stub, 0o755)
-            lines = list(
-                suspects.opened_lines(
-                    suspects.Runs(stub, "a", "b", room), "[search]\noutliers = 1\n"
-                )
-            )
+            runs = [suspects.Runs(stub, "a", "b", room, station) for station in (None, "c")]
+            lines, others = (list(suspects.opened_lines(it, "[search]\noutliers = 1\n")) for it in runs)
         assert len(lines) == 2
         assert re.search("^epoch 1 .* opening G03$", lines[0])
         assert lines[1] == "epochs 2, of which 1 are empty at outliers = 0"
+        assert others == [lines[0], lines[1] + "; a fault is one at the receiver or the station"]

@@ -39,19 +39,9 @@ NO_SHAPES = (
     ("null-geometry.json", '{"type": "Feature", "geometry": null}', *AREA, NONE),
     ("empty-object.json", "{}", *AREA, NONE),
     ("number.json", "1", *AREA, NONE),
-    (
-        "null-corner.json",
-        '{"type": "Polygon", "coordinates": [[[1, 2], [1, 3], null]]}',
-        *AREA,
-        NONE,
-    ),
+    ("null-corner.json", '{"type": "Polygon", "coordinates": [[[1, 2], [1, 3], null]]}', *AREA, NONE),
     ("no-coordinates.json", '{"type": "Polygon"}', *AREA, NONE),
-    (
-        "infinite.json",
-        '{"type": "Polygon", "coordinates": [[[1, 2], [1, 3], [2, Infinity]]]}',
-        *AREA,
-        NONE,
-    ),
+    ("infinite.json", '{"type": "Polygon", "coordinates": [[[1, 2], [1, 3], [2, Infinity]]]}', *AREA, NONE),
     ("deep.json", '{"geometry": ' * 10_000, *AREA, NONE),
     ("deep.kml", "<a>" * 10_000, *AREA, NONE),
     ("one-corner.txt", "35.8 138.3\n", *AREA, THREE),
@@ -59,12 +49,7 @@ NO_SHAPES = (
     ("not-a-number.txt", "35.875 138.392\n35.875 nan\n35.876 138.393\n", *AREA, NONE),
     ("empty.txt", "", *LANE, NONE),
     ("one-number.txt", "35.8\n", *LANE, NONE),
-    (
-        "short-position.json",
-        '{"type": "LineString", "coordinates": [[138], [138, 35.1]]}',
-        *LANE,
-        NONE,
-    ),
+    ("short-position.json", '{"type": "LineString", "coordinates": [[138], [138, 35.1]]}', *LANE, NONE),
     ("text-position.json", '{"type": "LineString", "coordinates": ["east", "west"]}', *LANE, NONE),
     ("empty-coordinates.kml", "<kml><LineString><coordinates/></LineString></kml>", *LANE, NONE),
     (
@@ -104,19 +89,12 @@ def holds(sides, point):
 def answer(sides, boxes):
     """What boxes (lo, hi) in um say of a prism, by all of their corners."""
     values = [
-        [
-            [sum(x * y for x, y in zip(a, corner)) for corner in itertools.product(*zip(*box))]
-            for box in boxes
-        ]
+        [[sum(x * y for x, y in zip(a, corner)) for corner in itertools.product(*zip(*box))] for box in boxes]
         for a, _ in sides
     ]
-    if all(
-        any(min(values[s][b]) > sides[s][1] for s in range(len(sides))) for b in range(len(boxes))
-    ):
+    if all(any(min(values[s][b]) > sides[s][1] for s in range(len(sides))) for b in range(len(boxes))):
         return "outside"
-    if boxes and all(
-        max(values[s][b]) <= sides[s][1] for s in range(len(sides)) for b in range(len(boxes))
-    ):
+    if boxes and all(max(values[s][b]) <= sides[s][1] for s in range(len(sides)) for b in range(len(boxes))):
         return "inside"
     return "open"
 
@@ -136,17 +114,12 @@ def drawn_place(draw):
 
 
 def around(draw, place):
-    """A point within the radius and the heights of a place, or at their edge, in the plane below
-    it."""
+    """A point within the radius and the heights of a place, or at their edge, in the plane below it."""
     latitude, longitude, height, radius, up = place
     ground = shapes.Ground(math.radians(latitude), math.radians(longitude))
     far, turn = radius * draw.choice((1, math.sqrt(draw.random()))), draw.uniform(0, 2 * math.pi)
     return ground.point(
-        (
-            far * math.cos(turn),
-            far * math.sin(turn),
-            height + up * draw.choice((-1, 1, draw.uniform(-1, 1))),
-        )
+        (far * math.cos(turn), far * math.sin(turn), height + up * draw.choice((-1, 1, draw.uniform(-1, 1))))
     )
 
 
@@ -169,20 +142,14 @@ class TestPlaces:
         found = shapes.corners(sides)
         assert found
         for x, y, z, divisor in found:
-            point = [
-                float(Fraction(part, divisor) / shapes.UM) - o
-                for part, o in zip((x, y, z), ground.origin)
-            ]
+            point = [float(Fraction(part, divisor) / shapes.UM) - o for part, o in zip((x, y, z), ground.origin)]
             east, north, above = (dot(point, axis) for axis in ground.axes)
             assert math.hypot(east, north) < radius
             assert abs(above - height) < up
 
     def test_the_middle_of_a_place_is_inside_and_what_is_beyond_is_outside(self):
         place = (47.2, 8.5, 400.0, 25.0, 10.0)
-        middle = [
-            round(part * shapes.UM)
-            for part in earth_fixed(math.radians(47.2), math.radians(8.5), 400.0)
-        ]
+        middle = [round(part * shapes.UM) for part in earth_fixed(math.radians(47.2), math.radians(8.5), 400.0)]
         near = [(tuple(p - 10**6 for p in middle), tuple(p + 10**6 for p in middle))]
         far = [(tuple(p + 40 * 10**6 for p in middle), tuple(p + 41 * 10**6 for p in middle))]
         for purpose in ("outside", "inside"):
@@ -202,10 +169,7 @@ class TestAreas:
         turns = sorted(draw.uniform(0, 2 * math.pi) for _ in range(count))
         far = [draw.uniform(1e-4, 2e-3) for _ in turns]
         return [
-            (
-                latitude + f * math.sin(t),
-                longitude + f * math.cos(t) / math.cos(math.radians(latitude)),
-            )
+            (latitude + f * math.sin(t), longitude + f * math.cos(t) / math.cos(math.radians(latitude)))
             for f, t in zip(far, turns)
         ]
 
@@ -223,10 +187,7 @@ class TestAreas:
                     for height in (100.0, 117.0, 130.0):
                         point = um(earth_fixed(*at, height))
                         near = any(
-                            all(
-                                shapes.product(a, point) <= most + 200_000 * shapes.LONGEST
-                                for a, most in part
-                            )
+                            all(shapes.product(a, point) <= most + 200_000 * shapes.LONGEST for a, most in part)
                             for part in parts
                         )
                         held = any(holds(part, point) for part in parts)
@@ -238,10 +199,7 @@ class TestAreas:
         assert len(sides) == 6
         with pytest.raises(shapes.ShapeError):
             shapes.area_lines("a", [*square, (47.0005, 8.0005)], 0.0, 20.0, "inside")
-        assert (
-            len(prisms(shapes.area_lines("a", [*square, (47.0005, 8.0005)], 0.0, 20.0, "outside")))
-            == 3
-        )
+        assert len(prisms(shapes.area_lines("a", [*square, (47.0005, 8.0005)], 0.0, 20.0, "outside"))) == 3
 
 
 class TestLanes:
@@ -258,23 +216,14 @@ class TestLanes:
                 (sides,) = prisms(shapes.lane_lines("l", [start, end], 3.5, -1.0, 3.0, purpose))
                 for share in (0.01, 0.5, 0.99):
                     at = [p + share * (q - p) for p, q in zip(start, end)]
-                    a, b = (
-                        earth_fixed(math.radians(p[0]), math.radians(p[1]), p[2])
-                        for p in (start, end)
-                    )
-                    assert holds(sides, um([p + share * (q - p) for p, q in zip(a, b)])), (
-                        number,
-                        purpose,
-                        share,
-                        at,
-                    )
+                    a, b = (earth_fixed(math.radians(p[0]), math.radians(p[1]), p[2]) for p in (start, end))
+                    assert holds(sides, um([p + share * (q - p) for p, q in zip(a, b)])), (number, purpose, share, at)
 
 
 def drawn_boxes(draw, reach):
     """Up to three boxes within a reach of the origin."""
     ends = [
-        [sorted(draw.randint(-reach, reach) for _ in range(2)) for _ in range(3)]
-        for _ in range(draw.randint(0, 3))
+        [sorted(draw.randint(-reach, reach) for _ in range(2)) for _ in range(3)] for _ in range(draw.randint(0, 3))
     ]
     return [(tuple(e[0] for e in box), tuple(e[1] for e in box)) for box in ends]
 
@@ -293,25 +242,15 @@ class TestAnswers:
                     else tuple(draw.randint(-(2**20), 2**20) for _ in range(3))
                 )
                 if any(a):
-                    sides.append(
-                        (a, draw.randint(-sum(map(abs, a)) * reach, sum(map(abs, a)) * reach))
-                    )
+                    sides.append((a, draw.randint(-sum(map(abs, a)) * reach, sum(map(abs, a)) * reach)))
             flat = [(*lo, *hi) for lo, hi in boxes]
-            assert zones.Prism("a", sides).answer(flat) == answer(sides, boxes), (
-                number,
-                sides,
-                boxes,
-            )
+            assert zones.Prism("a", sides).answer(flat) == answer(sides, boxes), (number, sides, boxes)
 
     def test_a_box_answers_as_the_prism_of_its_sides(self):
         draw = random.Random(5)
         for _ in range(DRAWN):
             ends = [sorted(draw.randint(-4, 4) for _ in range(2)) for _ in range(3)]
-            sides = [
-                (tuple(s * (k == i) for i in range(3)), s * ends[k][s > 0])
-                for k in range(3)
-                for s in (-1, 1)
-            ]
+            sides = [(tuple(s * (k == i) for i in range(3)), s * ends[k][s > 0]) for k in range(3) for s in (-1, 1)]
             flat = [Box(*lo, *hi) for lo, hi in drawn_boxes(draw, 4)]
             low, high = zip(*ends)
             box = zones.Corners("a", low, high)
@@ -319,12 +258,7 @@ class TestAnswers:
 
     def test_lines_of_a_log(self):
         text = "gpszones 2\nzone a 0 0 0 2 2 2\nprism b 1\nside 1 1 1 3\nreach c 2 0 -1\n"
-        log = [
-            (1, [(0, 0, 0, 1, 1, 1)]),
-            (2, None),
-            (3, []),
-            (4, [(0, 0, 0, 1, 1, 1), (5, 5, 5, 6, 6, 6)]),
-        ]
+        log = [(1, [(0, 0, 0, 1, 1, 1)]), (2, None), (3, []), (4, [(0, 0, 0, 1, 1, 1), (5, 5, 5, 6, 6, 6)])]
         wanted = (
             "epoch 1 zone a inside,epoch 1 zone b inside,epoch 1 reach c -1 2,epoch 2 few,epoch 3 zone a outside,"
             "epoch 3 zone b outside,epoch 3 reach c none,epoch 4 zone a open,epoch 4 zone b open,epoch 4 reach c -1 7,"
@@ -367,10 +301,7 @@ class TestFiles:
         texts = (
             kml.format(" ".join(f"{p[1]},{p[0]}" for p in ring)),
             json.dumps(
-                {
-                    "type": "Feature",
-                    "geometry": {"type": "Polygon", "coordinates": [[[p[1], p[0]] for p in ring]]},
-                }
+                {"type": "Feature", "geometry": {"type": "Polygon", "coordinates": [[[p[1], p[0]] for p in ring]]}}
             ),
             "".join(f"{p[0]} {p[1]}\n" for p in ring),
         )
@@ -379,9 +310,7 @@ class TestFiles:
             for number, text in enumerate(texts):
                 path = Path(folder) / str(number)
                 path.write_text(text, encoding="utf-8")
-                written.append(
-                    said("--for", "outside", "--area", f"a,{path},0,20", "--reach", "r,47,8")
-                )
+                written.append(said("--for", "outside", "--area", f"a,{path},0,20", "--reach", "r,47,8"))
         assert written[0] == written[1]
         assert written[0] == written[2]
         assert written[0][:2] == ["gpszones 2", "prism a 5"]
@@ -436,9 +365,7 @@ def drawn_lines(draw, name, boxes):
     kind = draw.choice(("zone", "zone", "prism", "prism", "reach"))
     if kind == "zone":
         ends = draw.choice((hull, hull, draw.choice(boxes)))
-        moved = [
-            end + draw.choice((0, 0, 1, -1, draw.randint(-(10**8), 10**8))) for end in ends
-        ]
+        moved = [end + draw.choice((0, 0, 1, -1, draw.randint(-(10**8), 10**8))) for end in ends]
         if any(moved[k] > moved[k + 3] for k in range(3)):
             moved = ends
         return [" ".join(map(str, ["zone", name, *moved]))]
@@ -447,18 +374,14 @@ def drawn_lines(draw, name, boxes):
         size = draw.choice((1, 5, shapes.LONGEST))
         a = tuple(draw.randint(-size, size) for _ in range(3))
         a = a if any(a) else (0, -size, 0)
-        ends = [
-            end for box in draw.choice((boxes, [draw.choice(boxes)])) for end in zones.span(a, box)
-        ]
+        ends = [end for box in draw.choice((boxes, [draw.choice(boxes)])) for end in zones.span(a, box)]
         most = draw.choice((max(ends), max(ends), min(ends))) + draw.choice(
             (0, 0, 1, -1, size * draw.randint(-(10**8), 10**8))
         )
         sides.append((a, most))
     if kind == "reach":
         return ["reach {} {} {} {}".format(name, *sides[0][0])]
-    return [f"prism {name} {len(sides)}"] + [
-        "side {} {} {} {}".format(*a, most) for a, most in sides
-    ]
+    return [f"prism {name} {len(sides)}"] + ["side {} {} {} {}".format(*a, most) for a, most in sides]
 
 
 class TestGuards:
@@ -472,23 +395,13 @@ class TestGuards:
         text = re.sub(r"(?m)^bisections = .*$", "bisections = 64", text)
         cls.settings = cls.folder / "settings.toml"
         cls.settings.write_text(
-            text.replace("\n[bounds]\n", "\n[motion]\nspeed = 20000\n\n[bounds]\n"),
-            encoding="utf-8",
+            text.replace("\n[bounds]\n", "\n[motion]\nspeed = 20000\n\n[bounds]\n"), encoding="utf-8"
         )
-        cls.files = [
-            str(EXAMPLES / "vehicle.obs"),
-            str(EXAMPLES / "vehicle.nav"),
-            str(cls.settings),
-        ]
+        cls.files = [str(EXAMPLES / "vehicle.obs"), str(EXAMPLES / "vehicle.nav"), str(cls.settings)]
         cls.logs = {}
         for command, options in (("solve", []), ("track", ["--track"])):
             log = cls.folder / f"{command}.log"
-            subprocess.run(
-                [cls.program, command, *cls.files, log],
-                check=True,
-                stdout=subprocess.DEVNULL,
-                timeout=600,
-            )
+            subprocess.run([cls.program, command, *cls.files, log], check=True, stdout=subprocess.DEVNULL, timeout=600)
             cls.logs[log] = options
 
     @classmethod
@@ -498,15 +411,10 @@ class TestGuards:
     def expect_lines(self, path, log, options):
         """The program and the script say the same, and this is what they say."""
         ran = subprocess.run(
-            [self.program, "guard", *self.files, path, log, *options],
-            capture_output=True,
-            text=True,
-            timeout=600,
+            [self.program, "guard", *self.files, path, log, *options], capture_output=True, text=True, timeout=600
         )
         assert (ran.returncode, ran.stderr) == (0, "")
-        boxes = (
-            (e.index, None if e.few else [kept.box for kept in e.kept]) for e in read_epochs(log)
-        )
+        boxes = ((e.index, None if e.few else [kept.box for kept in e.kept]) for e in read_epochs(log))
         wanted = list(zones.lines(*zones.read_zones(path), boxes))
         assert ran.stdout == "".join(line + "\n" for line in wanted)
         return wanted
@@ -514,25 +422,13 @@ class TestGuards:
     def test_a_thousand_drawn_zones_on_both_logs(self):
         draw, said = random.Random(6), set()
         for log, options in self.logs.items():
-            regions = [
-                [kept.box for kept in epoch.kept] for epoch in read_epochs(log) if epoch.kept
-            ]
+            regions = [[kept.box for kept in epoch.kept] for epoch in read_epochs(log) if epoch.kept]
             for part in range(3):
                 count = DRAWN // 6 + 1
-                text = [
-                    line
-                    for k in range(count)
-                    for line in drawn_lines(draw, f"a{k}", draw.choice(regions))
-                ]
+                text = [line for k in range(count) for line in drawn_lines(draw, f"a{k}", draw.choice(regions))]
                 path = self.folder / "drawn.zones"
-                path.write_text(
-                    "".join(line + "\n" for line in ["gpszones 2", *text]), encoding="utf-8"
-                )
-                said |= {
-                    line.split()[-1]
-                    for line in self.expect_lines(path, log, options)
-                    if " zone " in line
-                }
+                path.write_text("".join(line + "\n" for line in ["gpszones 2", *text]), encoding="utf-8")
+                said |= {line.split()[-1] for line in self.expect_lines(path, log, options) if " zone " in line}
         assert said == {"outside", "inside", "open"}
 
     def test_the_first_form_has_no_totals(self):
@@ -540,32 +436,20 @@ class TestGuards:
         for log, options in self.logs.items():
             hull = hull_of([kept.box for epoch in read_epochs(log) for kept in epoch.kept])
             path.write_text(
-                "gpszones 1\nzone far 0 0 0 1 1 1\nzone all {} {} {} {} {} {}\n".format(*hull),
-                encoding="utf-8",
+                "gpszones 1\nzone far 0 0 0 1 1 1\nzone all {} {} {} {} {} {}\n".format(*hull), encoding="utf-8"
             )
             found = [line.split(" zone ")[1] for line in self.expect_lines(path, log, options)]
             assert found == ["far outside", "all inside"] * 21
 
     def test_lanes_areas_and_limits_of_the_vehicle(self):
         lane = self.folder / "lane.txt"
-        lane.write_text(
-            "35.8729 138.3905 1010\n35.87275 138.3871 1010\n35.8648 138.3871 950\n",
-            encoding="utf-8",
-        )
+        lane.write_text("35.8729 138.3905 1010\n35.87275 138.3871 1010\n35.8648 138.3871 950\n", encoding="utf-8")
         for log, options in self.logs.items():
             for purpose in ("inside", "outside"):
-                words = [
-                    "--lane",
-                    f"l,{lane},200,-300,300",
-                    "--reported",
-                    f"at,{PLACES},{log},100,250",
-                ]
+                words = ["--lane", f"l,{lane},200,-300,300", "--reported", f"at,{PLACES},{log},100,250"]
                 words += ["--reach", "r,35.87,138.387"]
                 path = self.folder / "made.zones"
-                path.write_text(
-                    "".join(line + "\n" for line in said("--for", purpose, *words)),
-                    encoding="utf-8",
-                )
+                path.write_text("".join(line + "\n" for line in said("--for", purpose, *words)), encoding="utf-8")
                 found = self.expect_lines(path, log, options)
                 # The places of another program are held by each region: so none is outside.
                 for index in range(1, 22):

@@ -6,7 +6,7 @@ each.
 
 import re
 
-from second import recheck
+from tools.compare.second import recheck
 
 OBS, NAV, SETTINGS = range(3)
 END = b" " * 60 + b"END OF HEADER       \n"

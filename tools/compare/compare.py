@@ -21,7 +21,7 @@ import tempfile
 import time
 from pathlib import Path
 
-from second import recheck
+from tools.compare.second import PATH as SECOND, recheck
 from tools.compare.cases import named_cases
 from tools.compare.cuts import log_with_cuts, with_cuts
 from tools.compare.renewals import with_renewals
@@ -464,7 +464,7 @@ def selections(arguments, directory):
 def compare_words(pair, tally, words, name):
     """Compares both checkers on a command line, each run as a process."""
     theirs = pair.run("check" if words[1:] and not words[1].startswith("-") else "judge", *words)
-    run = subprocess.run([sys.executable, Path(__file__).with_name("recheck.py"), *words], capture_output=True,
+    run = subprocess.run([sys.executable, SECOND, *words], capture_output=True,
                          check=False)
     own = run.returncode, run.stdout.decode(), run.stderr.decode()
     same = theirs == own or theirs[0] == own[0] == 2

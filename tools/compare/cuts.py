@@ -6,7 +6,7 @@ so that it has to accept the right ones; whether a cut is right is for both chec
 
 from collections import deque
 
-from second import recheck
+from tools.compare.second import recheck
 
 
 def widest_cut(rows, box, needed, face, tries=46):

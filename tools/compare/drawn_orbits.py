@@ -26,7 +26,7 @@ from pathlib import Path
 ROOT = Path(__file__).resolve().parents[2]
 
 from tools.compare import compare
-from second import recheck
+from tools.compare.second import recheck
 from tools.compare import sample
 from gpscover.geodesy import elevation
 

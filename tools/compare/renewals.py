@@ -4,7 +4,7 @@
 rows of recheck.py, so that it has to accept the right ones; whether a renewal is right is for both checkers to say.
 """
 
-from second import recheck
+from tools.compare.second import recheck
 
 
 def grown_row(files, epoch, satellite, used, box):

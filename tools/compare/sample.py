@@ -14,7 +14,7 @@ import sys
 from fractions import Fraction
 from math import factorial, isqrt
 
-from second import recheck
+from tools.compare.second import recheck
 
 U = 10**16
 H = 157079632679489661923

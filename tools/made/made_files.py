@@ -33,14 +33,7 @@ from gpscover.log import UM_PER_M, epochs
 from tools.made.orbits import LIGHT, Record, turned
 
 # What is the same in all made records, in s, m^(1/2) and rad. Their satellites' axes, planes and clocks follow.
-TOE, ROOT_AXIS, INCLINATION, PERIGEE, NODE_RATE, GROUP_DELAY = (
-    7200.0,
-    5153.6,
-    0.96,
-    0.5,
-    -8e-9,
-    -1e-8,
-)
+TOE, ROOT_AXIS, INCLINATION, PERIGEE, NODE_RATE, GROUP_DELAY = (7200.0, 5153.6, 0.96, 0.5, -8e-9, -1e-8)
 # The time of the first epoch in s of the week, and what is between two.
 START, STEP = 3600, 30
 SATELLITES, NOISE_MM, OUTLIER_MM = range(1, 9), 2000, 500_000
@@ -53,10 +46,7 @@ LABELS = {
         ("  2024     1     7     1     0    0.0000000     GPS", "TIME OF FIRST OBS"),
         ("", "END OF HEADER"),
     ],
-    "nav": [
-        ("     3.05           N: GNSS NAV DATA    G", "RINEX VERSION / TYPE"),
-        ("", "END OF HEADER"),
-    ],
+    "nav": [("     3.05           N: GNSS NAV DATA    G", "RINEX VERSION / TYPE"), ("", "END OF HEADER")],
 }
 SETTINGS = """\
 [bounds]
@@ -140,9 +130,7 @@ class Satellite:
         """The code of an epoch, counted from 0."""
         tag = START + STEP * index
         mm = self.code(receiver, tag, noise_mm)
-        return Code(
-            index, self.number, mm, self.residual(receiver, tag, (mm + 1) / 1000) * 1000 - noise_mm
-        )
+        return Code(index, self.number, mm, self.residual(receiver, tag, (mm + 1) / 1000) * 1000 - noise_mm)
 
 
 def record_lines(number, mean):
@@ -192,9 +180,7 @@ class Made:
         draw = draws(seed)
         self.receiver = [least + draw(1000) for least in (4_000_000, 3_000_000, 3_900_000)]
         self.satellites = [Satellite(number, draw(100)) for number in SATELLITES]
-        self.epochs = [
-            list(epoch_codes(index, self.receiver, self.satellites, draw)) for index in range(count)
-        ]
+        self.epochs = [list(epoch_codes(index, self.receiver, self.satellites, draw)) for index in range(count)]
 
     def doubtful(self):
         """The codes of which the program may take the next mm, the most doubtful first."""
@@ -203,15 +189,8 @@ class Made:
 
     def texts(self, raised=()):
         """The texts of the three files by their ending, with the next mm of some codes."""
-        head = {
-            kind: [text.ljust(60) + label for text, label in lines]
-            for kind, lines in LABELS.items()
-        }
-        obs = [
-            line
-            for index, codes in enumerate(self.epochs)
-            for line in epoch_lines(index, codes, raised)
-        ]
+        head = {kind: [text.ljust(60) + label for text, label in lines] for kind, lines in LABELS.items()}
+        obs = [line for index, codes in enumerate(self.epochs) for line in epoch_lines(index, codes, raised)]
         nav = [line for satellite in self.satellites for line in satellite.record]
         centre = [1000 * (axis + aside) for axis, aside in zip(self.receiver, (7, -5, 3))]
         return {
@@ -228,9 +207,7 @@ def run(words):
     """What a run prints; Error where it doesn't end with 0."""
     ran = subprocess.run(words, stdin=subprocess.DEVNULL, capture_output=True, text=True)
     if ran.returncode:
-        raise Error(
-            f"{' '.join(words)} ended with {ran.returncode}: {ran.stdout + ran.stderr.strip()}"
-        )
+        raise Error(f"{' '.join(words)} ended with {ran.returncode}: {ran.stdout + ran.stderr.strip()}")
     return ran.stdout
 
 
@@ -238,8 +215,7 @@ def is_held(epoch, receiver):
     """Whether the place is in a kept box of the epoch whose clock span holds 0."""
     place = [axis * UM_PER_M for axis in receiver]
     return any(
-        all(kept.box[k] <= place[k] <= kept.box[k + 3] for k in range(3))
-        and kept.clock[0] <= 0 <= kept.clock[1]
+        all(kept.box[k] <= place[k] <= kept.box[k + 3] for k in range(3)) and kept.clock[0] <= 0 <= kept.clock[1]
         for kept in epoch.kept
     )
 
@@ -251,12 +227,12 @@ def sums(report):
     return f"boxes in {inside} edge {edge} out {out} bisections {splits}"
 
 
-def solve(program, folder, texts):
+def solve(program, folder, texts, options=()):
     """Writes files into a folder and has them solved: the report, and the names with that of the log."""
     for kind, text in texts.items():
         (folder / f"made.{kind}").write_text(text, encoding="ascii", newline="\n")
     files = [str(folder / f"made.{kind}") for kind in ("obs", "nav", "toml", "log")]
-    return run([program, "solve", *files]), files
+    return run([program, "solve", *files, *options]), files
 
 
 def compared(program, made, printed, own):
@@ -268,7 +244,9 @@ def compared(program, made, printed, own):
         for count in range(1, len(doubtful) + 1):
             report, _ = solve(program, Path(room), made.texts(doubtful[:count]))
             if sums(report) == printed:
-                return f"make prints the sums with the next mm for {', '.join(code.words() for code in doubtful[:count])}"
+                return (
+                    f"make prints the sums with the next mm for {', '.join(code.words() for code in doubtful[:count])}"
+                )
     if len(doubtful) < 2:
         raise Error(f"make prints {printed!r}, and {len(doubtful)} codes are doubtful")
     return f"make prints another second line; {len(doubtful)} codes are doubtful"
@@ -282,9 +260,7 @@ def solve_and_check(program, folder, seed, count):
     found = list(epochs(files[-1]))
     lost = [epoch.index for epoch in found if not is_held(epoch, made.receiver)]
     if len(found) != count or lost:
-        raise Error(
-            f"of {count} epochs {len(found)} are in the log, and these don't hold the place: {lost}"
-        )
+        raise Error(f"of {count} epochs {len(found)} are in the log, and these don't hold the place: {lost}")
     first = f"made seed {seed} epochs {count} satellites {sum(epoch.satellites for epoch in found)}"
     printed = run([program, "make", str(seed), str(count)]).splitlines()
     if printed[0] != first:
@@ -295,9 +271,7 @@ def solve_and_check(program, folder, seed, count):
 
 def arguments():
     """The words of the command line."""
-    parser = argparse.ArgumentParser(
-        description="Has the files of a made receiver solved and checked."
-    )
+    parser = argparse.ArgumentParser(description="Has the files of a made receiver solved and checked.")
     parser.add_argument("seed", metavar="SEED", type=int)
     parser.add_argument("epochs", metavar="EPOCHS", type=int)
     parser.add_argument("--folder", help="where the files are kept")

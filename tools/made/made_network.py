@@ -95,22 +95,14 @@ def code(record, place, time, draw):
         there = turned(sent, flight)
         flight = math.dist(there, place) / LIGHT
     angle = elevation(place, there)
-    air = TROPOSPHERE * troposphere_mapping(angle) + IONOSPHERE * ionosphere_mapping(
-        angle, SHELL_KM
-    )
+    air = TROPOSPHERE * troposphere_mapping(angle) + IONOSPHERE * ionosphere_mapping(angle, SHELL_KM)
     return LIGHT * (flight - clock) + air + draw.uniform(-NOISE, NOISE) if angle > MASK else None
 
 
 def observations(place, start, records, args, seed):
     """The text of a day of a station."""
     draw = random.Random(seed)
-    filled = [
-        OBS_HEAD[0][0],
-        OBS_HEAD[1][0].format(*place),
-        OBS_HEAD[2][0],
-        OBS_HEAD[3][0].format(start, 0.0),
-        "",
-    ]
+    filled = [OBS_HEAD[0][0], OBS_HEAD[1][0].format(*place), OBS_HEAD[2][0], OBS_HEAD[3][0].format(start, 0.0), ""]
     lines = [f"{text:60}{label}" for text, (_, label) in zip(filled, OBS_HEAD)]
     for index in range(args.epochs):
         date = start + datetime.timedelta(seconds=args.step * index)
@@ -141,10 +133,7 @@ def main():
     head, *texts = re.split(r"(?m)^(?=[A-Z]\d\d )", (ROOT / "examples/receiver.nav").read_text())
     newest = {text[:3]: text for text in texts if text.startswith("G")}
     stations = [place_of(index) for index in range(args.stations)]
-    table = [
-        f"  {name}: {{place: [{', '.join(f'{at:.3f}' for at in place)}]}}\n"
-        for name, place in stations
-    ]
+    table = [f"  {name}: {{place: [{', '.join(f'{at:.3f}' for at in place)}]}}\n" for name, place in stations]
     (folder / "stations.yaml").write_text("stations:\n" + "".join(table), encoding="ascii")
     for days in range(args.days):
         start = FIRST_DAY + datetime.timedelta(days=days, hours=FIRST_HOUR)

@@ -61,18 +61,12 @@ class System:
         """Its satellites with their drawn records, for a user of two codes or of one."""
         for number in range(1, self.planes * self.slots + 1):
             slot, plane = divmod(number - 1, self.planes)
-            node, mean = (
-                2 * math.pi * plane / self.planes,
-                2 * math.pi * (slot + plane / self.planes) / self.slots,
-            )
+            node, mean = (2 * math.pi * plane / self.planes, 2 * math.pi * (slot + plane / self.planes) / self.slots)
             orbit = self.root_axis, draw.uniform(0.0005, 0.02)
             if self.letter == "E" and number in ECCENTRIC:
                 orbit = 5289.6, 0.16
             yield Satellite(
-                self,
-                f"{self.letter}{number:02}",
-                record_lines(draw, self, number, orbit, node, mean),
-                dual,
+                self, f"{self.letter}{number:02}", record_lines(draw, self, number, orbit, node, mean), dual
             )
 
 
@@ -88,10 +82,7 @@ OBS_HEAD = [
     ("  2024     1     7     1     0    0.0000000     GPS", "TIME OF FIRST OBS"),
     ("", "END OF HEADER"),
 ]
-NAV_HEAD = [
-    ("     3.05           N: GNSS NAV DATA    M", "RINEX VERSION / TYPE"),
-    ("", "END OF HEADER"),
-]
+NAV_HEAD = [("     3.05           N: GNSS NAV DATA    M", "RINEX VERSION / TYPE"), ("", "END OF HEADER")]
 SETTINGS = """\
 [search]
 centre = [{}, {}, {}]
@@ -131,12 +122,7 @@ def record_lines(draw, system, number, orbit, node, mean):
     root_axis, eccentricity = orbit
     rows = [
         (about(5e-4), about(1e-11), 0),
-        (
-            number,
-            about(150),
-            draw.uniform(3e-9, 5e-9),
-            math.remainder(mean + about(0.05), 2 * math.pi),
-        ),
+        (number, about(150), draw.uniform(3e-9, 5e-9), math.remainder(mean + about(0.05), 2 * math.pi)),
         (about(5e-6), eccentricity, about(1e-5), root_axis),
         (TOE, about(2e-7), math.remainder(node + about(0.05), 2 * math.pi), about(2e-7)),
         (system.inclination + about(0.01), draw.uniform(150, 300), about(3), -8e-9 + about(5e-10)),
@@ -145,19 +131,13 @@ def record_lines(draw, system, number, orbit, node, mean):
         (TOE - 60, 0, 0, 0),
     ]
     first, *more = ("".join(map(field, row)) for row in rows)
-    return [
-        f"{system.letter}{number:02} 2024 01 07 02 00 00" + first,
-        *("    " + line for line in more),
-    ]
+    return [f"{system.letter}{number:02} 2024 01 07 02 00 00" + first, *("    " + line for line in more)]
 
 
 def other_lines(lines, source):
     """The record of the other message, from this source, beside one: another clock."""
     clock = float(lines[0][23:42].replace("D", "E")) + WRONG_CLOCK
-    first, sixth = (
-        lines[0][:23] + field(clock) + lines[0][42:],
-        lines[5][:23] + field(source) + lines[5][42:],
-    )
+    first, sixth = (lines[0][:23] + field(clock) + lines[0][42:], lines[5][:23] + field(source) + lines[5][42:])
     return [first, *lines[1:5], sixth, *lines[6:]]
 
 
@@ -233,17 +213,9 @@ class Made:
         obs = [line for index in range(count) for line in self.epoch(index, outliers, draw)]
         nav = [line for satellite in self.satellites for line in satellite.lines]
         other = next(it.source for message, it in MESSAGES.items() if message != self.message)
-        nav += [
-            line
-            for it in self.satellites
-            if it.system.letter == "E"
-            for line in other_lines(it.lines, other)
-        ]
+        nav += [line for it in self.satellites if it.system.letter == "E" for line in other_lines(it.lines, other)]
         types = iter(self.systems)
-        head = [
-            (text.format(" ".join(next(types).codes)) if "{}" in text else text, label)
-            for text, label in OBS_HEAD
-        ]
+        head = [(text.format(" ".join(next(types).codes)) if "{}" in text else text, label) for text, label in OBS_HEAD]
         return {"obs": text_of(head, obs), "nav": text_of(NAV_HEAD, nav)}
 
     def settings(self, outliers, both):
@@ -252,11 +224,7 @@ class Made:
         gps, galileo = (listed(it.codes[: 1 + self.dual]) for it in self.systems)
         mode, delay = ("dual", 0) if self.dual else ("single", MOST_DELAY)
         text = SETTINGS.format(*centre, outliers, mode, gps, 1000 * delay)
-        table = (
-            GALILEO
-            if self.message == "F/NAV"
-            else GALILEO.replace("codes", 'message = "I/NAV"\ncodes')
-        )
+        table = GALILEO if self.message == "F/NAV" else GALILEO.replace("codes", 'message = "I/NAV"\ncodes')
         return text + (table.format(galileo) if both else "")
 
 
@@ -288,9 +256,7 @@ def solved(program, made, files, second):
     wanted = f"yes {sum(len(epoch.kept) for epoch in found)}\n"
     lost = [epoch.index for epoch in found if not is_held(epoch, made.receiver)]
     if set(said) != {wanted} or lost:
-        raise Error(
-            f"{files[-1]}: {said} where {wanted!r} is right; these epochs don't hold the place: {lost}"
-        )
+        raise Error(f"{files[-1]}: {said} where {wanted!r} is right; these epochs don't hold the place: {lost}")
     return found
 
 
@@ -299,9 +265,7 @@ def table_line(outliers, name, found):
     widths = list(zip(*(region_of(epoch).widths() for epoch in found)))
     counts = [epoch.satellites for epoch in found]
     medians = "  ".join(f"{statistics.median(axis):7.2f}" for axis in widths)
-    return (
-        f"{outliers}  {name:<4}  {len(found):>6}  {min(counts):>4} to {max(counts):>2}  {medians}"
-    )
+    return f"{outliers}  {name:<4}  {len(found):>6}  {min(counts):>4} to {max(counts):>2}  {medians}"
 
 
 def compare(args, folder):
@@ -311,13 +275,8 @@ def compare(args, folder):
     for outliers in range(3):
         texts = made.texts(args.epochs, outliers)
         for name, both in (("both", True), ("GPS", False)):
-            files = [
-                str(folder / f"two{outliers}{name}.{kind}")
-                for kind in ("obs", "nav", "toml", "log")
-            ]
-            for path, text in zip(
-                files, (texts["obs"], texts["nav"], made.settings(outliers, both))
-            ):
+            files = [str(folder / f"two{outliers}{name}.{kind}") for kind in ("obs", "nav", "toml", "log")]
+            for path, text in zip(files, (texts["obs"], texts["nav"], made.settings(outliers, both))):
                 Path(path).write_text(text, encoding="ascii", newline="\n")
             found = solved(args.program, made, files, args.second)
             if len(found) != args.epochs:
@@ -328,17 +287,11 @@ def compare(args, folder):
 
 def arguments():
     """The words of the command line."""
-    parser = argparse.ArgumentParser(
-        description="A made receiver of two systems: regions of both and of GPS alone."
-    )
+    parser = argparse.ArgumentParser(description="A made receiver of two systems: regions of both and of GPS alone.")
     parser.add_argument("seed", metavar="SEED", type=int)
     parser.add_argument("epochs", metavar="EPOCHS", type=int, help="1 to 240")
-    parser.add_argument(
-        "--inav", action="store_true", help="Galileo by I/NAV on E1 and E5b (F/NAV on E1 and E5a)"
-    )
-    parser.add_argument(
-        "--single", action="store_true", help="with --inav: by one code of each satellite"
-    )
+    parser.add_argument("--inav", action="store_true", help="Galileo by I/NAV on E1 and E5b (F/NAV on E1 and E5a)")
+    parser.add_argument("--single", action="store_true", help="with --inav: by one code of each satellite")
     parser.add_argument("--folder", help="where the files are kept")
     parser.add_argument("--program", default="./gpscover", help="the program (./gpscover)")
     parser.add_argument("--second", action="store_true", help="check by second/recheck.py too")

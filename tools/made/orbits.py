@@ -40,16 +40,8 @@ class Record:
         self.satellite, self.toc = first[:3], int((date - EPOCH).total_seconds())
         self.clock = [number(first[at : at + 19]) for at in (23, 42, 61)]
         lines = [[number(line[at : at + 19]) for at in (4, 23, 42, 61)] for line in rest]
-        (
-            (_, crs, motion, self.mean),
-            (cuc, self.ratio, cus, self.root),
-            (toe, cic, node, cis),
-        ) = lines[:3]
-        (
-            (self.tilt, crc, self.perigee, node_rate),
-            (self.tilt_rate, source, *_),
-            (_, health, *delays),
-        ) = lines[3:6]
+        ((_, crs, motion, self.mean), (cuc, self.ratio, cus, self.root), (toe, cic, node, cis)) = lines[:3]
+        ((self.tilt, crc, self.perigee, node_rate), (self.tilt_rate, source, *_), (_, health, *delays)) = lines[3:6]
         inav = text[0] == "E" and int(source) & INAV_CLOCK
         self.delay = 0 if dual else delays[bool(inav)]
         # The amounts that go with the sine and the cosine of twice the angle from the node.
@@ -67,26 +59,17 @@ class Record:
         for _ in range(12):
             anomaly = mean + self.ratio * math.sin(anomaly)
         sine, cosine = math.sin(anomaly), math.cos(anomaly)
-        angle = (
-            math.atan2(math.sqrt(1 - self.ratio**2) * sine, cosine - self.ratio) + self.perigee
-        )
+        angle = math.atan2(math.sqrt(1 - self.ratio**2) * sine, cosine - self.ratio) + self.perigee
         waves = math.sin(2 * angle), math.cos(2 * angle)
         along, outward, tilted = (a * waves[0] + b * waves[1] for a, b in self.waves)
         angle, radius = angle + along, self.axis * (1 - self.ratio * cosine) + outward
         tilt, node = self.tilt + tilted + self.tilt_rate * since, self.node + self.node_rate * since
         x, y = radius * math.cos(angle), radius * math.sin(angle)
         flat, z = y * math.cos(tilt), y * math.sin(tilt)
-        place = (
-            x * math.cos(node) - flat * math.sin(node),
-            x * math.sin(node) + flat * math.cos(node),
-            z,
-        )
+        place = (x * math.cos(node) - flat * math.sin(node), x * math.sin(node) + flat * math.cos(node), z)
         since += self.toe - self.toc
         drift = self.clock[0] + (self.clock[1] + self.clock[2] * since) * since
-        return (
-            place,
-            drift + RELATIVITY[self.satellite[0]] * self.ratio * self.root * sine - self.delay,
-        )
+        return (place, drift + RELATIVITY[self.satellite[0]] * self.ratio * self.root * sine - self.delay)
 
     def at(self, time):
         """The same at a time of GPS."""

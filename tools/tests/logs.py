@@ -10,9 +10,7 @@ from gpscover import command
 from gpscover.log import epochs
 
 TOP = Path(__file__).resolve().parents[2]
-RENEWED = (
-    TOP / "examples/renewed-rows.log"
-)  # the rows of G01 and G05 are renewed with a fifth of their errors
+RENEWED = TOP / "examples/renewed-rows.log"  # the rows of G01 and G05 are renewed with a fifth of their errors
 HEAD = "gpscover 1\nrules 1 10 1000\n"
 # A box of 200 m at the equator, at longitude 0: east is y, north is z, up is x.
 PAVED = (
@@ -61,9 +59,7 @@ def ended(tool, *words):
     of its own is raised."""
     out, err = io.StringIO(), io.StringIO()
     name = tool.__name__.rpartition(".")[2]
-    with mock.patch.object(sys, "argv", [f"{name}.py", *map(str, words)]), mock.patch(
-        "gpscover.command.drop_output"
-    ):
+    with mock.patch.object(sys, "argv", [f"{name}.py", *map(str, words)]), mock.patch("gpscover.command.drop_output"):
         with contextlib.redirect_stdout(out), contextlib.redirect_stderr(err):
             try:
                 command.run_tool(tool.main)

@@ -20,9 +20,7 @@ def day(lines):
     for k in range(2880):
         minutes, seconds = divmod(30 * k, 60)
         hour, minute = divmod(minutes, 60)
-        epochs.append(
-            b"> 2024 01 07 %02d %02d %2d.0000000  0 26\n" % (hour, minute, seconds) + sats
-        )
+        epochs.append(b"> 2024 01 07 %02d %02d %2d.0000000  0 26\n" % (hour, minute, seconds) + sats)
     return b"".join([line.ljust(60) + label + b"\n" for line, label in lines] + epochs)
 
 

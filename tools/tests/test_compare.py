@@ -4,7 +4,7 @@ from itertools import product
 
 import pytest
 
-from second import recheck
+from tools.compare.second import recheck
 from tools.compare import sample
 from tools.forged_logs import DATA
 
@@ -19,9 +19,7 @@ BOXES = (
 
 def files_of(folder, zenith, half):
     """The files of the recorded receiver with the troposphere mapped by elevation."""
-    settings = re.sub(
-        r"(?m)^(troposphere = .*)$", rf"\1\nzenith = {zenith}", (DATA / "settings.toml").read_text()
-    )
+    settings = re.sub(r"(?m)^(troposphere = .*)$", rf"\1\nzenith = {zenith}", (DATA / "settings.toml").read_text())
     path = folder / "mapped.toml"
     path.write_text(re.sub(r"(?m)^half = .*$", f"half = {half}", settings))
     return recheck.Files(str(DATA / "receiver.obs"), str(DATA / "receiver.nav"), str(path))
@@ -29,25 +27,12 @@ def files_of(folder, zenith, half):
 
 def outside(files, epoch, satellite, used):
     """The names of numbers outside of the own row, drawn as the equations leave them at corners of the box."""
-    row, codes, settings = (
-        files.row(epoch, satellite, used, files.box),
-        epoch.satellites[satellite],
-        files.settings,
-    )
+    row, codes, settings = (files.row(epoch, satellite, used, files.box), epoch.satellites[satellite], files.settings)
     for number, signs in enumerate(product((0, 1), repeat=3)):
-        draw = sample.Drawer(
-            ("low", "high", "any", "mixed")[number % 4], 100 * number + int(satellite[1:])
-        )
+        draw = sample.Drawer(("low", "high", "any", "mixed")[number % 4], 100 * number + int(satellite[1:]))
         point = [files.box[axis + 3 * sign] for axis, sign in enumerate(signs)]
         numbers = sample.allowed(
-            draw,
-            used[1],
-            epoch.time,
-            codes,
-            settings.dual,
-            point,
-            settings.delays,
-            settings.bounds_of(satellite),
+            draw, used[1], epoch.time, codes, settings.dual, point, settings.delays, settings.bounds_of(satellite)
         )
         for name, number, (low, high) in zip(sample.NAMES, numbers, row, strict=True):
             if not low <= number <= high:

@@ -33,11 +33,7 @@ class TestStatements:
         "abbrev pub Named : Type\nNamed = Twice\n\nabbrev pub Dotted : Type\nDotted = base.Half (shape.Round 1)\n\n"
         "abbrev pub Marked : Type\nMarked = Sign Other\n\nabbrev pub All : Type\nAll = Named Dotted Marked\n"
     )
-    TREE = (
-        ("low/specs/Base.antt", BASE),
-        ("low/src/shape.rt", SHAPE),
-        ("high/specs/Top.antt", TOP),
-    )
+    TREE = (("low/specs/Base.antt", BASE), ("low/src/shape.rt", SHAPE), ("high/specs/Top.antt", TOP))
     # What is reached from a definition of the last one, counted by hand.
     REACHED = (
         ("Named", "2 definitions, 5", "0 types, 0"),
@@ -59,11 +55,7 @@ class TestStatements:
                         == f"high.Top.{name}: 2 files, 17 lines by imports; {definitions} lines by name; {types} lines"
                     )
                 for name in ("high.Top.Gone", "high.Gone.All", "high.Top"):
-                    assert ended(statement, name) == (
-                        1,
-                        "",
-                        f"statement.py: no definition {name}\n",
-                    )
+                    assert ended(statement, name) == (1, "", f"statement.py: no definition {name}\n")
 
 
 class TestDocuments:
@@ -79,12 +71,7 @@ class TestDocuments:
         assert (TOP / "docs/HEADLINE.md").read_text(encoding="utf-8") == headline.page()
 
     def test_each_definition_down_from_the_headline_names_the_next(self):
-        frames = [
-            frame
-            for _, *passages in headline.LINKS
-            for frames in passages[1::2]
-            for frame in frames
-        ]
+        frames = [frame for _, *passages in headline.LINKS for frames in passages[1::2] for frame in frames]
         paths = {name: path for path, *names in frames for name in names}
         for chain in (
             "runs Runs Obeys checking TellsAlone Tells",
@@ -98,7 +85,9 @@ class TestDocuments:
             "IsAccepted Admissible OwnLines",
             "IsAccepted AreOwn IsOwnOf AreLinesOf",
             "BlocksFitCover FitsEpoch Fits Agrees IsConsistent",
-            "Accepts meaning_of both_meaning meaning_by IsChainAt AreValues IsChainOf ChainValue",
+            "Accepts meaning_of rows_meaning both_meaning meaning_by IsChainAt AreValues IsChainOf ChainValue",
+            "rows_meaning station_meaning IsDifferenceAt AreDifferences IsDifferenceOf IsResidual ChainValue",
+            "station_meaning IsJudgedByBoth LacksStation",
             "AreValues IsBound",
             "meaning_by bound_for",
             "accepted SolvesThenChecks RunsThen AreApart",
@@ -132,9 +121,7 @@ class TestEdits:
     """The must-fail edits that the gate leaves out (more_edits.sh), whose texts it doesn't look for either."""
 
     @pytest.mark.parametrize(
-        "edit",
-        sorted((TOP / "edits").glob("*/*.edit")),
-        ids=lambda it: f"{it.parent.name}/{it.stem}",
+        "edit", sorted((TOP / "edits").glob("*/*.edit")), ids=lambda it: f"{it.parent.name}/{it.stem}"
     )
     def test_each_changes_texts_that_stand_once_in_their_files(self, edit):
         crate, texts = TOP / "crates" / edit.parent.name, {}
@@ -154,9 +141,7 @@ class TestWrapper:
     """The words that ./gpscover answers itself. Neither builds anything."""
 
     def said(self, word, path=os.environ.get("PATH", "")):
-        ran = subprocess.run(
-            [TOP / "gpscover", word], capture_output=True, text=True, env={"PATH": path}, check=True
-        )
+        ran = subprocess.run([TOP / "gpscover", word], capture_output=True, text=True, env={"PATH": path}, check=True)
         assert ran.stderr == ""
         return ran.stdout
 
@@ -188,12 +173,7 @@ class TestWrapper:
         with tempfile.TemporaryDirectory() as room:
             for path in (os.environ["PATH"], self.bare(room)):
                 page = self.said("--help", path)
-                for words in (
-                    "gpscover solve",
-                    "EXIT STATUS",
-                    "yes BOXES",
-                    "after 2, 3 and 4 nothing was created",
-                ):
+                for words in ("gpscover solve", "EXIT STATUS", "yes BOXES", "after 2, 3 and 4 nothing was created"):
                     assert words.lower() in " ".join(page.split()).lower()
                 assert "\\f" not in page
 

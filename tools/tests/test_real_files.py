@@ -121,22 +121,12 @@ class TestRealFiles:
             for what, most in limits:
                 resource.setrlimit(what, (most, most))
 
-        usual = {
-            "stdin": subprocess.DEVNULL,
-            "stdout": subprocess.PIPE,
-            "stderr": subprocess.PIPE,
-            "preexec_fn": limit,
-        }
+        usual = {"stdin": subprocess.DEVNULL, "stdout": subprocess.PIPE, "stderr": subprocess.PIPE, "preexec_fn": limit}
         return subprocess.run([self.program, *words], cwd=self.folder, timeout=900, **usual | how)
 
     def start(self, *words):
         """The program on the words, running."""
-        how = {
-            "stdin": subprocess.DEVNULL,
-            "stdout": subprocess.PIPE,
-            "stderr": subprocess.PIPE,
-            "bufsize": 0,
-        }
+        how = {"stdin": subprocess.DEVNULL, "stdout": subprocess.PIPE, "stderr": subprocess.PIPE, "bufsize": 0}
         run = subprocess.Popen([self.program, *words], cwd=self.folder, **how)
         self.at_end(run.communicate)
         self.at_end(run.kill)
@@ -193,23 +183,16 @@ class TestRealFiles:
 
     def test_an_eccentric_orbit_is_used_up_to_its_bound(self):
         observed = DAY["day.obs"].partition(b"> ")[0]
-        self.write(
-            "one.obs", observed + b"> 2024 01 07 00 00  0.0700000  0  2\nG01  20985472.060\nG02\n"
-        )
+        self.write("one.obs", observed + b"> 2024 01 07 00 00  0.0700000  0  2\nG01  20985472.060\nG02\n")
         self.write("day.toml", DAY["day.toml"])
         header = DAY["day.nav"].partition(b"G01")[0]
-        zero, head = (
-            b" 0.000000000000D+00",
-            b"gpscover 1\nrules 1 4096 1000000\nfew 1 1388620800070000000000 ",
-        )
+        zero, head = (b" 0.000000000000D+00", b"gpscover 1\nrules 1 4096 1000000\nfew 1 1388620800070000000000 ")
         for eccentricity, usable in (
             (b"0.000000000000D+00", 1),
             (b"1.000000000000D-01", 1),
             (b"2.100000000000D-01", 0),
         ):
-            record = (RECORD % 1).replace(
-                zero + zero + zero + b" 5.2", zero + b" " + eccentricity + zero + b" 5.2"
-            )
+            record = (RECORD % 1).replace(zero + zero + zero + b" 5.2", zero + b" " + eccentricity + zero + b" 5.2")
             self.write("one.nav", header + record)
             skipped = b"" if usable else b"skip G01 6 8\n"
             said = b"epoch 1 gps 1388620800.070000000000 few %d\n" % usable
@@ -253,16 +236,10 @@ class TestRealFiles:
         assert SOLVED.count(b"\nroot %s\n" % ROOT) == 4
         words = ["guard", *FILES, "a.zones", "receiver.log"]
         self.expect(words, 0, found_in(1, 2, 3, 4))
-        self.expect(
-            ["guard", "--to", "4", *FILES, "--from=1", "a.zones", "receiver.log"],
-            0,
-            found_in(1, 2, 3, 4),
-        )
+        self.expect(["guard", "--to", "4", *FILES, "--from=1", "a.zones", "receiver.log"], 0, found_in(1, 2, 3, 4))
         # Without totals, and without lines.
         self.write("a.zones", b"gpszones 1\n" + ZONES.split(b"\n")[1] + b"\n")
-        self.expect(
-            words, 0, b"".join(b"epoch %d zone far outside\n" % index for index in range(1, 5))
-        )
+        self.expect(words, 0, b"".join(b"epoch %d zone far outside\n" % index for index in range(1, 5)))
         self.write("a.zones", b"gpszones 1\n")
         self.expect(words, 0)
         # Of a part, and of a log of which one part alone is asked.
@@ -286,13 +263,8 @@ class TestRealFiles:
         words = ["guard", *FILES, "a.zones", "receiver.log"]
         self.expect_nothing_done([*words, "--track"], 3, b"settings 31 Missing motion.speed\n")
         # With pairs and more splits the region of an epoch is far from the faces of the search box.
-        settings = self.read("settings.toml").replace(
-            b"bisections = 12\n", b"bisections = 40\npairs = true\n", 1
-        )
-        self.write(
-            "settings.toml",
-            settings.replace(b"[bounds]\n", b"[motion]\nspeed = 3000\n[bounds]\n", 1),
-        )
+        settings = self.read("settings.toml").replace(b"bisections = 12\n", b"bisections = 40\npairs = true\n", 1)
+        self.write("settings.toml", settings.replace(b"[bounds]\n", b"[motion]\nspeed = 3000\n[bounds]\n", 1))
         assert self.run_words("solve", *FILES, "receiver.log").returncode == 0
         self.expect(words, 0, found_in(1, 2, 3, 4))
         lines = self.read("receiver.log").splitlines()
@@ -338,12 +310,8 @@ class TestRealFiles:
             self.write("a.zones", text)
             self.expect_nothing_done(words, 3, b"zones 42 BadZones line %d\n" % line)
         # The files are read in their order.
-        self.expect_nothing_done(
-            [*words[:4], "a.zones", "settings.toml"], 3, b"zones 42 BadZones line 2\n"
-        )
-        self.expect_nothing_done(
-            ["guard", "settings.toml", *words[2:]], 3, b"obs 10 NotRinex line 1\n"
-        )
+        self.expect_nothing_done([*words[:4], "a.zones", "settings.toml"], 3, b"zones 42 BadZones line 2\n")
+        self.expect_nothing_done(["guard", "settings.toml", *words[2:]], 3, b"obs 10 NotRinex line 1\n")
 
     def test_a_day_is_solved_in_parts(self):
         for name, data in DAY.items():
@@ -353,9 +321,7 @@ class TestRealFiles:
             ran = self.run_words("solve", *DAY, "part.log", *words)
             assert (ran.returncode, ran.stderr) == (0, b"")
             log = self.read("part.log")
-            indices = [
-                int(line.split()[1]) for line in log.splitlines() if line.startswith(b"epoch")
-            ]
+            indices = [int(line.split()[1]) for line in log.splitlines() if line.startswith(b"epoch")]
             assert indices == list(range(first, first + 4))
             boxes = closings(log)(b"in", b"edge")
             self.expect(["check", *DAY, "part.log", *words], 0, b"yes %d\n" % boxes)
@@ -391,22 +357,13 @@ class TestRealFiles:
         assert {len(row) for row in rows} == {14}
         # From the zenith to the horizon the delay of at most 3 m becomes 3 to 67.2 m.
         for lo, hi, sure_lo, sure_hi in (map(int, row[10:]) for row in rows):
-            assert lo < sure_lo and sure_hi < hi and hi <= 26_000_000 + 67_200_000, (
-                lo,
-                hi,
-                sure_lo,
-                sure_hi,
-            )
+            assert lo < sure_lo and sure_hi < hi and hi <= 26_000_000 + 67_200_000, (lo, hi, sure_lo, sure_hi)
         boxes = closings(log)(b"in", b"edge")
         self.expect(["check", *DAY, "part.log", *part], 0, b"yes %d\n" % boxes)
         self.expect(["judge", "part.log"], 0, b"yes %d\n" % boxes)
         # A search box around the earth's centre.
         self.write("day.toml", mapped.replace(b"[6378137000, 0, 0]", b"[0, 0, 0]"))
-        self.expect(
-            ["solve", *DAY, "part.log", "--to", "1"],
-            0,
-            b"epoch 1 gps 1388620800.000000000000 few 0\n",
-        )
+        self.expect(["solve", *DAY, "part.log", "--to", "1"], 0, b"epoch 1 gps 1388620800.000000000000 few 0\n")
         skips = b"".join(b"skip G%02d 7\n" % number for number in range(1, 7))
         few = b"gpscover 1\nrules 1 4096 1000000\nfew 1 1388620800000000000000 0\n" + skips
         assert self.read("part.log") == few
@@ -415,9 +372,7 @@ class TestRealFiles:
     def test_rows_are_renewed(self):
         plain = self.read("settings.toml").replace(b"half = 200000\n", b"half = 10000000\n")
         plain = plain.replace(b"bisections = 12\n", b"bisections = 40\n")
-        mapped = re.sub(
-            rb"(?m)^troposphere = .*$", b"troposphere = [0, 0]\nzenith = [1800, 3000]", plain
-        )
+        mapped = re.sub(rb"(?m)^troposphere = .*$", b"troposphere = [0, 0]\nzenith = [1800, 3000]", plain)
         for settings, pairs, command, check in (
             (plain, b"", "solve", "check"),
             (plain, b"pairs = true\n", "solve", "check"),
@@ -426,16 +381,11 @@ class TestRealFiles:
         ):
             lengths = []
             for more in b"renew = true\n", b"renew = false\n", b"":
-                self.write(
-                    "settings.toml",
-                    settings.replace(b"[signal]\n", more + pairs + b"[signal]\n", 1),
-                )
+                self.write("settings.toml", settings.replace(b"[signal]\n", more + pairs + b"[signal]\n", 1))
                 ran = self.run_words(command, *FILES, "new.log")
                 assert (ran.returncode, ran.stderr) == (0, b"")
                 log = self.read("new.log")
-                head = (
-                    b"gpscover 3" if pairs else b"gpscover 2" if b"true" in more else b"gpscover 1"
-                )
+                head = b"gpscover 3" if pairs else b"gpscover 2" if b"true" in more else b"gpscover 1"
                 assert log.splitlines()[0] == head
                 asked, found = renewals(log)
                 assert found == (asked if b"true" in more else [])
@@ -444,9 +394,7 @@ class TestRealFiles:
                 self.expect([check, *FILES, "new.log"], 0, yes)
                 self.expect(["judge", "new.log"], 0, yes)
                 # Whether rows are renewed is for `solve` and `track` alone to ask.
-                self.write(
-                    "settings.toml", settings.replace(b"[signal]\n", pairs + b"[signal]\n", 1)
-                )
+                self.write("settings.toml", settings.replace(b"[signal]\n", pairs + b"[signal]\n", 1))
                 self.expect([check, *FILES, "new.log"], 0, yes)
             assert lengths[0] > 0
 
@@ -468,9 +416,7 @@ class TestRealFiles:
         self.write("sure.log", log.replace(b" -400000 400000", b" -500000 500000"))
         self.expect(["judge", "sure.log"], 3, b"", b"log 40 BadLog line 4 kind 3\n")
         # All but G04 fit everywhere at clock offset 0, G01 only where its error may be 1 m.
-        inner = log.replace(b" -400000 400000", b"").replace(
-            b" -500000 500000\n", b" -1000000 1000000\n"
-        )
+        inner = log.replace(b" -400000 400000", b"").replace(b" -500000 500000\n", b" -1000000 1000000\n")
         below = b"sat G05 0 0 0 0 -20000000000000 -20000000000000 20000000000000 20000000000000 -1000000 1000000\n"
         inner = (
             inner.replace(b"rules 0 ", b"rules 1 ")
@@ -480,18 +426,13 @@ class TestRealFiles:
         inner = inner.replace(b"edge 0 -1400000 1400000", b"in 0 0 -1900000 1900000")
         self.write("sure.log", inner)
         self.expect(["judge", "sure.log"], 0, b"yes 1\n")
-        self.write(
-            "sure.log",
-            inner.replace(b" -1000000 1000000\n", b" -1000000 1000000 -999999 999999\n", 1),
-        )
+        self.write("sure.log", inner.replace(b" -1000000 1000000\n", b" -1000000 1000000 -999999 999999\n", 1))
         self.expect(["judge", "sure.log"], 1, b"no 59 InNotShown line 10\n")
 
     def test_made_files_are_solved_and_checked_from_disk(self):
         for seed, count in (0, 1), (4294967295, 9):
             said = made_files.solve_and_check(self.program, self.folder, seed, count)
-            assert said.startswith(
-                f"made seed {seed} epochs {count} satellites {8 * count}\n"
-            ), said
+            assert said.startswith(f"made seed {seed} epochs {count} satellites {8 * count}\n"), said
 
     def test_a_made_code_that_meets_its_noise_may_be_the_next_mm(self):
         said = made_files.solve_and_check(self.program, self.folder, 516, 5)
@@ -532,12 +473,7 @@ class TestRealFiles:
             (["solve", obs, "large", settings, "new.log"], INPUT, b"nav", long_line),
             (["solve", "large", nav, settings, "new.log"], INPUT, b"obs", long_line),
             (["pave", "large", "new.log"], INPUT, b"rows", bad_log),
-            (
-                ["guard", *FILES, "large", "receiver.log"],
-                SETTINGS,
-                b"zones",
-                b"%s 42 BadZones line 1\n",
-            ),
+            (["guard", *FILES, "large", "receiver.log"], SETTINGS, b"zones", b"%s 42 BadZones line 1\n"),
             (["judge", "large"], LOG, b"log", bad_log),
         ):
             self.sparse("large", limit + 1)
@@ -650,18 +586,8 @@ class TestRealFiles:
     def test_a_standard_output_that_is_not_open(self):
         """No file gets its place: LOG holds lines of the log alone, and the files that are read are as they were."""
         texts = {name: self.read(name) for name in (*FILES, ROWS, "receiver.log")}
-        for words, log in (
-            (["judge", "receiver.log"], None),
-            (["solve", *FILES], SOLVED),
-            (["pave", ROWS], PAVED),
-        ):
-            self.expect(
-                [*words, *["new.log"] * (log is not None)],
-                5,
-                b"",
-                b"out fault\n",
-                preexec_fn=close_output,
-            )
+        for words, log in ((["judge", "receiver.log"], None), (["solve", *FILES], SOLVED), (["pave", ROWS], PAVED)):
+            self.expect([*words, *["new.log"] * (log is not None)], 5, b"", b"out fault\n", preexec_fn=close_output)
             if log:
                 self.expect_start("new.log", log)
         assert {name: self.read(name) for name in texts} == texts
@@ -698,12 +624,7 @@ class TestRealFiles:
             "cp small/new.log copied.log 2>/dev/null; exit $status"
         )
         alone = ["unshare", "--map-root-user", "--mount", "sh", "-c", mounted, "sh"]
-        how = {
-            "cwd": self.folder,
-            "stdin": subprocess.DEVNULL,
-            "capture_output": True,
-            "timeout": 60,
-        }
+        how = {"cwd": self.folder, "stdin": subprocess.DEVNULL, "capture_output": True, "timeout": 60}
         try:
             subprocess.run([*alone, "true"], check=True, **how)
         except (OSError, subprocess.CalledProcessError) as error:
@@ -753,11 +674,7 @@ class TestRealFiles:
 def found_in(*epochs):
     """What `guard` says of ZONES in these epochs of SOLVED."""
     count = len(epochs)
-    return b"".join(FOUND % (index, index, index) for index in epochs) + TOTALS % (
-        count,
-        count,
-        count,
-    )
+    return b"".join(FOUND % (index, index, index) for index in epochs) + TOTALS % (count, count, count)
 
 
 def close_output():

@@ -78,9 +78,7 @@ class Repository:
 
     def run(self, *words, **more):
         env = {"PATH": f"{self.bin}:{TOOLS}", "HOME": str(self.room / "home"), **more}
-        return subprocess.run(
-            words, cwd=self.room, env=env, stdin=subprocess.DEVNULL, capture_output=True, text=True
-        )
+        return subprocess.run(words, cwd=self.room, env=env, stdin=subprocess.DEVNULL, capture_output=True, text=True)
 
     def gpscover(self, *words, **more):
         ran = self.run(str(self.top / "gpscover"), *words, **more)
@@ -130,9 +128,7 @@ class TestWhatRuns(InRepository):
     def test_what_is_no_source_of_the_program_changes_nothing(self):
         for name in ("crates/other/src/lib.rt", "README.md", "crates/low/must-fail/an.edit"):
             self.it.write(name, b"changed")
-        self.it.write(
-            "crates.txt", b"low:\ngpscover:   low\nother:\nthird: low\n".replace(b":   ", b": ")
-        )
+        self.it.write("crates.txt", b"low:\ngpscover:   low\nother:\nthird: low\n".replace(b":   ", b": "))
         assert self.it.gpscover("x") == (0, "released x\n", "")
 
     def test_a_changed_source_is_proved_and_built(self):
@@ -143,9 +139,7 @@ class TestWhatRuns(InRepository):
             if change == "new":
                 self.it.write("crates/low/src/new.rt", b"")
             else:
-                source.write_bytes(
-                    b"pub fn LOW() {}\n" if change == "edit" else b"pub fn Low() {}\n"
-                )
+                source.write_bytes(b"pub fn LOW() {}\n" if change == "edit" else b"pub fn Low() {}\n")
                 os.utime(source, ns=(before.st_atime_ns, before.st_mtime_ns))
             self.refused(["x"], "rt, the toolchain, isn't on the path")
             self.it.kit("1")
@@ -172,8 +166,7 @@ class TestWhatRuns(InRepository):
         self.it.gpscover("x")
         self.it.write("crates/low/src/lib.rt", b"wrong")
         (self.it.bin / "rt").write_text(
-            "#!/bin/sh\n[ $1 = version ] && echo kit 1 && exit\n"
-            "echo 'rt: FAILED: low'\necho '1 passed, 1 failed'\n"
+            "#!/bin/sh\n[ $1 = version ] && echo kit 1 && exit\necho 'rt: FAILED: low'\necho '1 passed, 1 failed'\n"
         )
         self.refused(["x"], "not proved: low")
 
@@ -217,13 +210,10 @@ class TestWhatRuns(InRepository):
     def test_eight_first_runs_at_once_each_find_a_whole_program(self):
         env = {"PATH": TOOLS, "HOME": str(self.it.room / "home")}
         runs = [
-            subprocess.Popen([str(self.it.top / "gpscover"), "x"], env=env, stdout=subprocess.PIPE)
-            for _ in range(8)
+            subprocess.Popen([str(self.it.top / "gpscover"), "x"], env=env, stdout=subprocess.PIPE) for _ in range(8)
         ]
         assert [run.communicate()[0] for run in runs] == [b"released x\n"] * 8
-        assert len(self.it.cached()) == 1 + sum(
-            name.startswith("seen") for name in self.it.cached()
-        )
+        assert len(self.it.cached()) == 1 + sum(name.startswith("seen") for name in self.it.cached())
 
 
 class TestWhatTheGateAsks(InRepository):
@@ -292,24 +282,19 @@ class TestWhatTheGateAsks(InRepository):
 
 
 @pytest.mark.skipif(
-    "\nreleased: "
-    not in subprocess.run([TOP / "gpscover", "--version"], capture_output=True, text=True).stdout,
+    "\nreleased: " not in subprocess.run([TOP / "gpscover", "--version"], capture_output=True, text=True).stdout,
     reason="the release isn't of these sources",
 )
 class TestThisRepository:
     @pytest.fixture(autouse=True)
     def copy(self, room, request):
         self.room, self.at_end = room, request.addfinalizer
-        left_out = shutil.ignore_patterns(
-            ".git", "out", "__pycache__", "docs", "second", "workflow"
-        )
+        left_out = shutil.ignore_patterns(".git", "out", "__pycache__", "docs", "second", "workflow")
         shutil.copytree(TOP, self.room / "gpscover", ignore=left_out)
 
     def run_in_copy(self, *words):
         env = {"PATH": TOOLS, "HOME": str(self.room), "GPSLOG_PYTHON": sys.executable}
-        return subprocess.run(
-            words, cwd=self.room / "gpscover", env=env, capture_output=True, text=True
-        )
+        return subprocess.run(words, cwd=self.room / "gpscover", env=env, capture_output=True, text=True)
 
     def test_the_first_commands_of_the_readme_run_at_once(self):
         files = [f"examples/{name}" for name in ("receiver.obs", "receiver.nav", "settings.toml")]
@@ -318,12 +303,7 @@ class TestThisRepository:
         checked = self.run_in_copy("./gpscover", "check", *files, "receiver.log")
         table = self.run_in_copy("./gpslog", "summary", "receiver.log")
         ended = os.times()
-        took = (
-            ended.children_user
-            + ended.children_system
-            - began.children_user
-            - began.children_system
-        )
+        took = ended.children_user + ended.children_system - began.children_user - began.children_system
         assert (solved.returncode, solved.stderr) == (0, "")
         assert checked.stdout == "yes 2047\n"
         assert "epochs 4: 4 with a region" in table.stdout

@@ -60,9 +60,7 @@ class TestTwoSystems:
     def by_inav(dual=True):
         """A receiver by I/NAV and its texts."""
         made = made_two_systems.Made(1, "I/NAV", dual)
-        return made, made.texts(EPOCHS, OUTLIERS) | {
-            "toml": with_splits(made.settings(OUTLIERS, True))
-        }
+        return made, made.texts(EPOCHS, OUTLIERS) | {"toml": with_splits(made.settings(OUTLIERS, True))}
 
     def written(self, **changed):
         """The names of the files and of a log. Texts are given for those that are changed."""
@@ -74,16 +72,11 @@ class TestTwoSystems:
     def said(self, *words):
         """The status and the line of a run of the program, without its report."""
         ran = subprocess.run([self.program, *words], capture_output=True, text=True)
-        return (
-            ran.returncode,
-            "" if words[0] == "solve" and not ran.returncode else ran.stdout + ran.stderr,
-        )
+        return (ran.returncode, "" if words[0] == "solve" and not ran.returncode else ran.stdout + ran.stderr)
 
     def second(self, *words):
         """The same of the second checker."""
-        ran = subprocess.run(
-            [sys.executable, made_two_systems.SECOND, *words], capture_output=True, text=True
-        )
+        ran = subprocess.run([sys.executable, made_two_systems.SECOND, *words], capture_output=True, text=True)
         return ran.returncode, ran.stdout + ran.stderr
 
     def solved(self, **changed):
@@ -140,12 +133,8 @@ class TestTwoSystems:
         made, texts = self.by_inav()
         texts |= made.texts(1, OUTLIERS) | {"toml": with_splits(texts["toml"], 0)}
         for line, reason, table in ((5, "3", INAV_SOURCES), (6, "4", INAV_HEALTHS)):
-            for value, used in (
-                (value, used) for used, values in table.items() for value in values
-            ):
-                _, (epoch,) = self.solved(
-                    **texts | {"nav": with_field(texts["nav"], "E11", line, value)}
-                )
+            for value, used in ((value, used) for used, values in table.items() for value in values):
+                _, (epoch,) = self.solved(**texts | {"nav": with_field(texts["nav"], "E11", line, value)})
                 assert ("E11" in [row.satellite for row in epoch.rows]) == used
                 assert epoch.skips == ([] if used else [("E11", reason, "")])
 
@@ -177,12 +166,7 @@ class TestTwoSystems:
         lines = self.texts["nav"].splitlines()
         at = next(k for k, line in enumerate(lines) if line.startswith("E11"))
         assert " 2.580000000000D+02" in lines[at + 5]
-        for source in (
-            "5.170000000000D+02",
-            "2.570000000000D+02",
-            "2.000000000000D+00",
-            "1.282000000000D+03",
-        ):
+        for source in ("5.170000000000D+02", "2.570000000000D+02", "2.000000000000D+00", "1.282000000000D+03"):
             changed = [*lines]
             changed[at + 5] = changed[at + 5].replace("2.580000000000D+02", source)
             files, found = self.solved(nav="".join(line + "\n" for line in changed))
@@ -194,9 +178,7 @@ class TestTwoSystems:
         files, _ = self.solved()
         log = Path(files[-1]).read_text(encoding="ascii").splitlines()
         assert log[3].startswith("sat E")
-        Path(files[2]).write_text(
-            self.settings().replace("offset = [-4000, 4000]", "offset = [-4000, 4001]")
-        )
+        Path(files[2]).write_text(self.settings().replace("offset = [-4000, 4000]", "offset = [-4000, 4001]"))
         self.both_say(files, (1, "no 54 BoundDiffers line 4\n"))
         Path(files[2]).write_text(self.settings() + f"[satellite]\n{log[3][4:7]} = [0, 1]\n")
         self.both_say(files, (1, "no 54 BoundDiffers line 4\n"))
@@ -226,49 +208,17 @@ class TestTwoSystems:
             ("obs", obs.replace(first, first + "\n" + first, 1), "obs 22 RepeatSatellite line 8"),
             ("obs", obs.replace(first, first[:5] + "x" + first[6:], 1), "obs 23 BadNumber line 7"),
             ("nav", re.sub(r"(?m)^E01 2024", "E01 x024", nav), "nav 19 BadEpoch line 243"),
-            (
-                "nav",
-                nav.replace(" 2.580000000000D+02", " 2.580000000000X+02", 1),
-                "nav 23 BadNumber line 248",
-            ),
-            (
-                "toml",
-                toml.replace('"C1C", "C5Q"', '"C1C", "C2W"'),
-                "settings 33 Outside galileo.codes",
-            ),
-            (
-                "toml",
-                toml.replace("offset = [-4000, 4000]\n", ""),
-                "settings 31 Missing galileo.offset",
-            ),
+            ("nav", nav.replace(" 2.580000000000D+02", " 2.580000000000X+02", 1), "nav 23 BadNumber line 248"),
+            ("toml", toml.replace('"C1C", "C5Q"', '"C1C", "C2W"'), "settings 33 Outside galileo.codes"),
+            ("toml", toml.replace("offset = [-4000, 4000]\n", ""), "settings 31 Missing galileo.offset"),
             ("toml", toml.replace("[-4000, 4000]", "[1, 0]"), "settings 33 Outside galileo.offset"),
-            (
-                "toml",
-                toml.replace('"dual"', '"single"').replace(', "C2W"', ""),
-                "settings 33 Outside galileo.codes",
-            ),
-            (
-                "toml",
-                toml.replace("[galileo]", '[galileo]\nmessage = "I/NAV"'),
-                "settings 33 Outside galileo.codes",
-            ),
-            (
-                "toml",
-                toml.replace("[galileo]", '[galileo]\nmessage = "INAV"'),
-                "settings 33 Outside galileo.message",
-            ),
-            (
-                "toml",
-                toml.replace("[galileo]", "[galileo]\nmessage = 1"),
-                "settings 32 WrongKind galileo.message",
-            ),
+            ("toml", toml.replace('"dual"', '"single"').replace(', "C2W"', ""), "settings 33 Outside galileo.codes"),
+            ("toml", toml.replace("[galileo]", '[galileo]\nmessage = "I/NAV"'), "settings 33 Outside galileo.codes"),
+            ("toml", toml.replace("[galileo]", '[galileo]\nmessage = "INAV"'), "settings 33 Outside galileo.message"),
+            ("toml", toml.replace("[galileo]", "[galileo]\nmessage = 1"), "settings 32 WrongKind galileo.message"),
             ("obs", obs.replace("C1C C5Q", "C1C C7Q"), "obs 16 CodeAbsent line 5"),
             ("toml", toml + "sign = 1\n", "settings 34 Unknown galileo.sign"),
-            (
-                "toml",
-                self.settings(both=False) + "[satellite]\nE01 = [0, 1]\n",
-                "settings 34 Unknown satellite.E01",
-            ),
+            ("toml", self.settings(both=False) + "[satellite]\nE01 = [0, 1]\n", "settings 34 Unknown satellite.E01"),
         )
         for kind, text, wanted in cases:
             files = self.written(**{kind: text})

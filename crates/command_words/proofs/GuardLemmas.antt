@@ -2,13 +2,13 @@
 use Rattle.std.proofs.Common.{◌≡◌, List, [], ◌∷◌, Option, Some, None, codes, refl, ap, ◌∙◌}
 use Rattle.std.specs.Prelude.{Bool, if◌then◌else◌}
 use Rattle.clap.specs.Kinds.{Kinds, or_else}
-use Rattle.clap.specs.Walk.{Text, Walk, option, nothing_held, settled, walked, is_empty, plain_word}
+use Rattle.clap.specs.Walk.{Text, Walk, nothing_held, walked, is_empty}
 use Rattle.clap.specs.Simple.{Shape}
-use Rattle.clap.specs.Faults.{turn_fault, step_fault}
+use Rattle.clap.specs.Faults.{turn_fault}
 use Rattle.clap.proofs.OnLiterals.{clap_on_literals}
 use Rattle.command_words.specs.Commands.{Epochs, Files, Command, Guard, guard_by, guard_of, files_of, epochs_by, command_of}
-use Rattle.command_words.specs.Stated.{IsName, AreNames, Options, Neither, From, To, FromTo, ToFrom, Flag, Nowhere, Before, BehindFirst, Behind, from_text, to_text, is_tracked, flagged_words, guard_words, GuardIsTaken}
-use Rattle.command_words.proofs.LevelLemmas.{guard_shape, Level, level, level_from, level_is, at, more, name_more, value_more, behind_value}
+use Rattle.command_words.specs.Stated.{IsName, IsNameIfGiven, AreNames, Options, Neither, From, To, FromTo, ToFrom, Flag, Nowhere, Before, BehindFirst, Behind, from_text, to_text, is_tracked, flagged_words, guard_words, station_words, GuardIsTaken}
+use Rattle.command_words.proofs.LevelLemmas.{guard_shape, Level, level, level_from, level_is, more, name_more, read, read_more, said_of}
 use Rattle.command_words.proofs.StatedLemmas.{ArePlain, plain_options, start, taken}
 
 -- the faults of its level, and the command that its matches hold
@@ -19,10 +19,10 @@ abbrev guard_seen : Level → GuardSeen
 guard_seen l = (l.0, guard_by l.1)
 
 -- the names, and what the options say
-abbrev asked_of : Files → Text → Bool → Options → GuardSeen
-asked_of f zones tracked options = (
+abbrev asked_of : Files → Text → Option Text → Bool → Options → GuardSeen
+asked_of f zones station tracked options = (
   [],
-  guard_of (files_of (Some f.obs) (Some f.nav) (Some f.settings) (Some f.log) (epochs_by (from_text options) (to_text options))) (Some zones) tracked,
+  guard_of (files_of (Some f.obs) (Some f.nav) (Some f.settings) (Some f.log) (epochs_by (from_text options) (to_text options)) station) (Some zones) tracked,
 )
 
 module _ (f : Files) (zones : Text) (n : AreNames f) (z : IsName zones) where
@@ -54,177 +54,240 @@ module _ (f : Files) (zones : Text) (n : AreNames f) (z : IsName zones) where
       ∙ name_more s g₃.held 4 zones (f.log ∷ rest) z refl
       ∙ name_more s g₄.held 5 f.log rest n.3 refl
 
-  -- an option waits for its text
-  abbrev waits : Walk → Text → Walk
-  waits w id = at (record (settled s.rules w.held) { pending = Some (id, []) }) (option id) 6
+  -- where the walk stands behind the station's file, where one is given
+  abbrev stationed : Option Text → Walk
+  stationed None = g₅
+  stationed (Some file) = read s 6 g₅ (codes "station") file
 
-  abbrev read : Walk → Text → Text → Walk
-  read w id text = behind_value s.rules (waits w id).held id 6 text
+  station_walked : (station : Option Text) (rest : List Text) → IsNameIfGiven station
+      → level_from s g₅ (station_words station rest) ≡ level_from s (stationed station) rest
+  unfolding clap_on_literals
+  station_walked None rest name = refl
+  station_walked (Some file) rest name =
+      read_more s 6 g₅ (codes "--station") (codes "station") file rest refl refl refl name
 
   -- the walk behind the flag
   abbrev flag : Walk → Walk
   flag w = walked s.rules [] w (codes "--track")
 
-  abbrev from_of : Walk → Text → Walk
-  from_of w from = read w (codes "from") from
-
-  abbrev to_of : Walk → Text → Walk
-  to_of w to = read w (codes "to") to
-
-  -- ---- one step, where the word passes there
-
-  read_more : (w : Walk) (word id text : Text) (rest : List Text) → turn_fault s [] w word ≡ []
-      → walked s.rules [] w word ≡ waits w id
-      → step_fault s 6 (plain_word s.rules (option id) text (waits w id).held).0 (plain_word s.rules (option id) text (waits w id).held).1 ≡ []
-      → IsName text
-      → level_from s w (word ∷ text ∷ rest) ≡ level_from s (read w id text) rest
-  read_more w word id text rest passes is step name = more s w (waits w id) word (text ∷ rest) passes is ∙ value_more s (waits w id).held id 6 text rest name step
-
   flag_more : (w : Walk) (rest : List Text) → turn_fault s [] w (codes "--track") ≡ []
       → level_from s w (codes "--track" ∷ rest) ≡ level_from s (flag w) rest
   flag_more w rest passes = more s w (flag w) (codes "--track") rest passes refl
 
-  -- where the walk stands behind the options
-  abbrev last_walk : Flag → Options → Walk
-  last_walk Nowhere Neither = g₅
-  last_walk Nowhere (From from) = from_of g₅ from
-  last_walk Nowhere (To to) = to_of g₅ to
-  last_walk Nowhere (FromTo from to) = to_of (from_of g₅ from) to
-  last_walk Nowhere (ToFrom to from) = from_of (to_of g₅ to) from
-  last_walk Before Neither = flag g₅
-  last_walk Before (From from) = from_of (flag g₅) from
-  last_walk Before (To to) = to_of (flag g₅) to
-  last_walk Before (FromTo from to) = to_of (from_of (flag g₅) from) to
-  last_walk Before (ToFrom to from) = from_of (to_of (flag g₅) to) from
-  last_walk BehindFirst Neither = flag g₅
-  last_walk BehindFirst (From from) = flag (from_of g₅ from)
-  last_walk BehindFirst (To to) = flag (to_of g₅ to)
-  last_walk BehindFirst (FromTo from to) = to_of (flag (from_of g₅ from)) to
-  last_walk BehindFirst (ToFrom to from) = from_of (flag (to_of g₅ to)) from
-  last_walk Behind Neither = flag g₅
-  last_walk Behind (From from) = flag (from_of g₅ from)
-  last_walk Behind (To to) = flag (to_of g₅ to)
-  last_walk Behind (FromTo from to) = flag (to_of (from_of g₅ from) to)
-  last_walk Behind (ToFrom to from) = flag (from_of (to_of g₅ to) from)
+  abbrev from_of : Walk → Text → Walk
+  from_of w from = read s 6 w (codes "from") from
 
-  options_walked : (flag : Flag) (options : Options) → ArePlain options
-      → level_from s g₅ (flagged_words flag options) ≡ level_from s (last_walk flag options) []
+  abbrev to_of : Walk → Text → Walk
+  to_of w to = read s 6 w (codes "to") to
+
+  -- and behind the other options
+  abbrev last_walk : Walk → Flag → Options → Walk
+  last_walk w Nowhere Neither = w
+  last_walk w Nowhere (From from) = from_of w from
+  last_walk w Nowhere (To to) = to_of w to
+  last_walk w Nowhere (FromTo from to) = to_of (from_of w from) to
+  last_walk w Nowhere (ToFrom to from) = from_of (to_of w to) from
+  last_walk w Before Neither = flag w
+  last_walk w Before (From from) = from_of (flag w) from
+  last_walk w Before (To to) = to_of (flag w) to
+  last_walk w Before (FromTo from to) = to_of (from_of (flag w) from) to
+  last_walk w Before (ToFrom to from) = from_of (to_of (flag w) to) from
+  last_walk w BehindFirst Neither = flag w
+  last_walk w BehindFirst (From from) = flag (from_of w from)
+  last_walk w BehindFirst (To to) = flag (to_of w to)
+  last_walk w BehindFirst (FromTo from to) = to_of (flag (from_of w from)) to
+  last_walk w BehindFirst (ToFrom to from) = from_of (flag (to_of w to)) from
+  last_walk w Behind Neither = flag w
+  last_walk w Behind (From from) = flag (from_of w from)
+  last_walk w Behind (To to) = flag (to_of w to)
+  last_walk w Behind (FromTo from to) = flag (to_of (from_of w from) to)
+  last_walk w Behind (ToFrom to from) = flag (from_of (to_of w to) from)
+
+  options_walked : (station : Option Text) (flag : Flag) (options : Options) → ArePlain options
+      → level_from s (stationed station) (flagged_words flag options) ≡ level_from s (last_walk (stationed station) flag options) []
   unfolding clap_on_literals
-  options_walked Nowhere Neither p = refl
-  options_walked Nowhere (From from) p = read_more g₅ (codes "--from") (codes "from") from [] refl refl refl p
-  options_walked Nowhere (To to) p = read_more g₅ (codes "--to") (codes "to") to [] refl refl refl p
-  options_walked Nowhere (FromTo from to) p =
-      read_more g₅ (codes "--from") (codes "from") from (codes "--to" ∷ to ∷ []) refl refl refl p.0
-      ∙ read_more (from_of g₅ from) (codes "--to") (codes "to") to [] refl refl refl p.1
-  options_walked Nowhere (ToFrom to from) p =
-      read_more g₅ (codes "--to") (codes "to") to (codes "--from" ∷ from ∷ []) refl refl refl p.1
-      ∙ read_more (to_of g₅ to) (codes "--from") (codes "from") from [] refl refl refl p.0
-  options_walked Before Neither p = flag_more g₅ [] refl
-  options_walked Before (From from) p =
+  options_walked None Nowhere Neither p = refl
+  options_walked None Nowhere (From from) p =
+      read_more s 6 g₅ (codes "--from") (codes "from") from [] refl refl refl p
+  options_walked None Nowhere (To to) p =
+      read_more s 6 g₅ (codes "--to") (codes "to") to [] refl refl refl p
+  options_walked None Nowhere (FromTo from to) p =
+      read_more s 6 g₅ (codes "--from") (codes "from") from (codes "--to" ∷ to ∷ []) refl refl refl p.0
+      ∙ read_more s 6 (from_of g₅ from) (codes "--to") (codes "to") to [] refl refl refl p.1
+  options_walked None Nowhere (ToFrom to from) p =
+      read_more s 6 g₅ (codes "--to") (codes "to") to (codes "--from" ∷ from ∷ []) refl refl refl p.1
+      ∙ read_more s 6 (to_of g₅ to) (codes "--from") (codes "from") from [] refl refl refl p.0
+  options_walked None Before Neither p =
+      flag_more g₅ [] refl
+  options_walked None Before (From from) p =
       flag_more g₅ (codes "--from" ∷ from ∷ []) refl
-      ∙ read_more (flag g₅) (codes "--from") (codes "from") from [] refl refl refl p
-  options_walked Before (To to) p =
+      ∙ read_more s 6 (flag g₅) (codes "--from") (codes "from") from [] refl refl refl p
+  options_walked None Before (To to) p =
       flag_more g₅ (codes "--to" ∷ to ∷ []) refl
-      ∙ read_more (flag g₅) (codes "--to") (codes "to") to [] refl refl refl p
-  options_walked Before (FromTo from to) p =
+      ∙ read_more s 6 (flag g₅) (codes "--to") (codes "to") to [] refl refl refl p
+  options_walked None Before (FromTo from to) p =
       flag_more g₅ (codes "--from" ∷ from ∷ codes "--to" ∷ to ∷ []) refl
-      ∙ read_more (flag g₅) (codes "--from") (codes "from") from (codes "--to" ∷ to ∷ []) refl refl refl p.0
-      ∙ read_more (from_of (flag g₅) from) (codes "--to") (codes "to") to [] refl refl refl p.1
-  options_walked Before (ToFrom to from) p =
+      ∙ read_more s 6 (flag g₅) (codes "--from") (codes "from") from (codes "--to" ∷ to ∷ []) refl refl refl p.0
+      ∙ read_more s 6 (from_of (flag g₅) from) (codes "--to") (codes "to") to [] refl refl refl p.1
+  options_walked None Before (ToFrom to from) p =
       flag_more g₅ (codes "--to" ∷ to ∷ codes "--from" ∷ from ∷ []) refl
-      ∙ read_more (flag g₅) (codes "--to") (codes "to") to (codes "--from" ∷ from ∷ []) refl refl refl p.1
-      ∙ read_more (to_of (flag g₅) to) (codes "--from") (codes "from") from [] refl refl refl p.0
-  options_walked BehindFirst Neither p = flag_more g₅ [] refl
-  options_walked BehindFirst (From from) p =
-      read_more g₅ (codes "--from") (codes "from") from (codes "--track" ∷ []) refl refl refl p
+      ∙ read_more s 6 (flag g₅) (codes "--to") (codes "to") to (codes "--from" ∷ from ∷ []) refl refl refl p.1
+      ∙ read_more s 6 (to_of (flag g₅) to) (codes "--from") (codes "from") from [] refl refl refl p.0
+  options_walked None BehindFirst Neither p =
+      flag_more g₅ [] refl
+  options_walked None BehindFirst (From from) p =
+      read_more s 6 g₅ (codes "--from") (codes "from") from (codes "--track" ∷ []) refl refl refl p
       ∙ flag_more (from_of g₅ from) [] refl
-  options_walked BehindFirst (To to) p =
-      read_more g₅ (codes "--to") (codes "to") to (codes "--track" ∷ []) refl refl refl p
+  options_walked None BehindFirst (To to) p =
+      read_more s 6 g₅ (codes "--to") (codes "to") to (codes "--track" ∷ []) refl refl refl p
       ∙ flag_more (to_of g₅ to) [] refl
-  options_walked BehindFirst (FromTo from to) p =
-      read_more g₅ (codes "--from") (codes "from") from (codes "--track" ∷ codes "--to" ∷ to ∷ []) refl refl refl p.0
+  options_walked None BehindFirst (FromTo from to) p =
+      read_more s 6 g₅ (codes "--from") (codes "from") from (codes "--track" ∷ codes "--to" ∷ to ∷ []) refl refl refl p.0
       ∙ flag_more (from_of g₅ from) (codes "--to" ∷ to ∷ []) refl
-      ∙ read_more (flag (from_of g₅ from)) (codes "--to") (codes "to") to [] refl refl refl p.1
-  options_walked BehindFirst (ToFrom to from) p =
-      read_more g₅ (codes "--to") (codes "to") to (codes "--track" ∷ codes "--from" ∷ from ∷ []) refl refl refl p.1
+      ∙ read_more s 6 (flag (from_of g₅ from)) (codes "--to") (codes "to") to [] refl refl refl p.1
+  options_walked None BehindFirst (ToFrom to from) p =
+      read_more s 6 g₅ (codes "--to") (codes "to") to (codes "--track" ∷ codes "--from" ∷ from ∷ []) refl refl refl p.1
       ∙ flag_more (to_of g₅ to) (codes "--from" ∷ from ∷ []) refl
-      ∙ read_more (flag (to_of g₅ to)) (codes "--from") (codes "from") from [] refl refl refl p.0
-  options_walked Behind Neither p = flag_more g₅ [] refl
-  options_walked Behind (From from) p =
-      read_more g₅ (codes "--from") (codes "from") from (codes "--track" ∷ []) refl refl refl p
+      ∙ read_more s 6 (flag (to_of g₅ to)) (codes "--from") (codes "from") from [] refl refl refl p.0
+  options_walked None Behind Neither p =
+      flag_more g₅ [] refl
+  options_walked None Behind (From from) p =
+      read_more s 6 g₅ (codes "--from") (codes "from") from (codes "--track" ∷ []) refl refl refl p
       ∙ flag_more (from_of g₅ from) [] refl
-  options_walked Behind (To to) p =
-      read_more g₅ (codes "--to") (codes "to") to (codes "--track" ∷ []) refl refl refl p
+  options_walked None Behind (To to) p =
+      read_more s 6 g₅ (codes "--to") (codes "to") to (codes "--track" ∷ []) refl refl refl p
       ∙ flag_more (to_of g₅ to) [] refl
-  options_walked Behind (FromTo from to) p =
-      read_more g₅ (codes "--from") (codes "from") from (codes "--to" ∷ to ∷ codes "--track" ∷ []) refl refl refl p.0
-      ∙ read_more (from_of g₅ from) (codes "--to") (codes "to") to (codes "--track" ∷ []) refl refl refl p.1
+  options_walked None Behind (FromTo from to) p =
+      read_more s 6 g₅ (codes "--from") (codes "from") from (codes "--to" ∷ to ∷ codes "--track" ∷ []) refl refl refl p.0
+      ∙ read_more s 6 (from_of g₅ from) (codes "--to") (codes "to") to (codes "--track" ∷ []) refl refl refl p.1
       ∙ flag_more (to_of (from_of g₅ from) to) [] refl
-  options_walked Behind (ToFrom to from) p =
-      read_more g₅ (codes "--to") (codes "to") to (codes "--from" ∷ from ∷ codes "--track" ∷ []) refl refl refl p.1
-      ∙ read_more (to_of g₅ to) (codes "--from") (codes "from") from (codes "--track" ∷ []) refl refl refl p.0
+  options_walked None Behind (ToFrom to from) p =
+      read_more s 6 g₅ (codes "--to") (codes "to") to (codes "--from" ∷ from ∷ codes "--track" ∷ []) refl refl refl p.1
+      ∙ read_more s 6 (to_of g₅ to) (codes "--from") (codes "from") from (codes "--track" ∷ []) refl refl refl p.0
       ∙ flag_more (from_of (to_of g₅ to) from) [] refl
+  options_walked (Some file) Nowhere Neither p = refl
+  options_walked (Some file) Nowhere (From from) p =
+      read_more s 6 (stationed (Some file)) (codes "--from") (codes "from") from [] refl refl refl p
+  options_walked (Some file) Nowhere (To to) p =
+      read_more s 6 (stationed (Some file)) (codes "--to") (codes "to") to [] refl refl refl p
+  options_walked (Some file) Nowhere (FromTo from to) p =
+      read_more s 6 (stationed (Some file)) (codes "--from") (codes "from") from (codes "--to" ∷ to ∷ []) refl refl refl p.0
+      ∙ read_more s 6 (from_of (stationed (Some file)) from) (codes "--to") (codes "to") to [] refl refl refl p.1
+  options_walked (Some file) Nowhere (ToFrom to from) p =
+      read_more s 6 (stationed (Some file)) (codes "--to") (codes "to") to (codes "--from" ∷ from ∷ []) refl refl refl p.1
+      ∙ read_more s 6 (to_of (stationed (Some file)) to) (codes "--from") (codes "from") from [] refl refl refl p.0
+  options_walked (Some file) Before Neither p =
+      flag_more (stationed (Some file)) [] refl
+  options_walked (Some file) Before (From from) p =
+      flag_more (stationed (Some file)) (codes "--from" ∷ from ∷ []) refl
+      ∙ read_more s 6 (flag (stationed (Some file))) (codes "--from") (codes "from") from [] refl refl refl p
+  options_walked (Some file) Before (To to) p =
+      flag_more (stationed (Some file)) (codes "--to" ∷ to ∷ []) refl
+      ∙ read_more s 6 (flag (stationed (Some file))) (codes "--to") (codes "to") to [] refl refl refl p
+  options_walked (Some file) Before (FromTo from to) p =
+      flag_more (stationed (Some file)) (codes "--from" ∷ from ∷ codes "--to" ∷ to ∷ []) refl
+      ∙ read_more s 6 (flag (stationed (Some file))) (codes "--from") (codes "from") from (codes "--to" ∷ to ∷ []) refl refl refl p.0
+      ∙ read_more s 6 (from_of (flag (stationed (Some file))) from) (codes "--to") (codes "to") to [] refl refl refl p.1
+  options_walked (Some file) Before (ToFrom to from) p =
+      flag_more (stationed (Some file)) (codes "--to" ∷ to ∷ codes "--from" ∷ from ∷ []) refl
+      ∙ read_more s 6 (flag (stationed (Some file))) (codes "--to") (codes "to") to (codes "--from" ∷ from ∷ []) refl refl refl p.1
+      ∙ read_more s 6 (to_of (flag (stationed (Some file))) to) (codes "--from") (codes "from") from [] refl refl refl p.0
+  options_walked (Some file) BehindFirst Neither p =
+      flag_more (stationed (Some file)) [] refl
+  options_walked (Some file) BehindFirst (From from) p =
+      read_more s 6 (stationed (Some file)) (codes "--from") (codes "from") from (codes "--track" ∷ []) refl refl refl p
+      ∙ flag_more (from_of (stationed (Some file)) from) [] refl
+  options_walked (Some file) BehindFirst (To to) p =
+      read_more s 6 (stationed (Some file)) (codes "--to") (codes "to") to (codes "--track" ∷ []) refl refl refl p
+      ∙ flag_more (to_of (stationed (Some file)) to) [] refl
+  options_walked (Some file) BehindFirst (FromTo from to) p =
+      read_more s 6 (stationed (Some file)) (codes "--from") (codes "from") from (codes "--track" ∷ codes "--to" ∷ to ∷ []) refl refl refl p.0
+      ∙ flag_more (from_of (stationed (Some file)) from) (codes "--to" ∷ to ∷ []) refl
+      ∙ read_more s 6 (flag (from_of (stationed (Some file)) from)) (codes "--to") (codes "to") to [] refl refl refl p.1
+  options_walked (Some file) BehindFirst (ToFrom to from) p =
+      read_more s 6 (stationed (Some file)) (codes "--to") (codes "to") to (codes "--track" ∷ codes "--from" ∷ from ∷ []) refl refl refl p.1
+      ∙ flag_more (to_of (stationed (Some file)) to) (codes "--from" ∷ from ∷ []) refl
+      ∙ read_more s 6 (flag (to_of (stationed (Some file)) to)) (codes "--from") (codes "from") from [] refl refl refl p.0
+  options_walked (Some file) Behind Neither p =
+      flag_more (stationed (Some file)) [] refl
+  options_walked (Some file) Behind (From from) p =
+      read_more s 6 (stationed (Some file)) (codes "--from") (codes "from") from (codes "--track" ∷ []) refl refl refl p
+      ∙ flag_more (from_of (stationed (Some file)) from) [] refl
+  options_walked (Some file) Behind (To to) p =
+      read_more s 6 (stationed (Some file)) (codes "--to") (codes "to") to (codes "--track" ∷ []) refl refl refl p
+      ∙ flag_more (to_of (stationed (Some file)) to) [] refl
+  options_walked (Some file) Behind (FromTo from to) p =
+      read_more s 6 (stationed (Some file)) (codes "--from") (codes "from") from (codes "--to" ∷ to ∷ codes "--track" ∷ []) refl refl refl p.0
+      ∙ read_more s 6 (from_of (stationed (Some file)) from) (codes "--to") (codes "to") to (codes "--track" ∷ []) refl refl refl p.1
+      ∙ flag_more (to_of (from_of (stationed (Some file)) from) to) [] refl
+  options_walked (Some file) Behind (ToFrom to from) p =
+      read_more s 6 (stationed (Some file)) (codes "--to") (codes "to") to (codes "--from" ∷ from ∷ codes "--track" ∷ []) refl refl refl p.1
+      ∙ read_more s 6 (to_of (stationed (Some file)) to) (codes "--from") (codes "from") from (codes "--track" ∷ []) refl refl refl p.0
+      ∙ flag_more (from_of (to_of (stationed (Some file)) to) from) [] refl
 
-  ended : (flag : Flag) (options : Options)
-      → guard_seen (level_from s (last_walk flag options) []) ≡ asked_of f zones (is_tracked flag) options
+  ended : (station : Option Text) (flag : Flag) (options : Options)
+      → guard_seen (level_from s (last_walk (stationed station) flag options) []) ≡ asked_of f zones station (is_tracked flag) options
   unfolding level_from clap_on_literals
-  ended Nowhere Neither = refl
-  ended Nowhere (From from) = refl
-  ended Nowhere (To to) = refl
-  ended Nowhere (FromTo from to) = refl
-  ended Nowhere (ToFrom to from) = refl
-  ended Before Neither = refl
-  ended Before (From from) = refl
-  ended Before (To to) = refl
-  ended Before (FromTo from to) = refl
-  ended Before (ToFrom to from) = refl
-  ended BehindFirst Neither = refl
-  ended BehindFirst (From from) = refl
-  ended BehindFirst (To to) = refl
-  ended BehindFirst (FromTo from to) = refl
-  ended BehindFirst (ToFrom to from) = refl
-  ended Behind Neither = refl
-  ended Behind (From from) = refl
-  ended Behind (To to) = refl
-  ended Behind (FromTo from to) = refl
-  ended Behind (ToFrom to from) = refl
+  ended None Nowhere Neither = refl
+  ended None Nowhere (From from) = refl
+  ended None Nowhere (To to) = refl
+  ended None Nowhere (FromTo from to) = refl
+  ended None Nowhere (ToFrom to from) = refl
+  ended None Before Neither = refl
+  ended None Before (From from) = refl
+  ended None Before (To to) = refl
+  ended None Before (FromTo from to) = refl
+  ended None Before (ToFrom to from) = refl
+  ended None BehindFirst Neither = refl
+  ended None BehindFirst (From from) = refl
+  ended None BehindFirst (To to) = refl
+  ended None BehindFirst (FromTo from to) = refl
+  ended None BehindFirst (ToFrom to from) = refl
+  ended None Behind Neither = refl
+  ended None Behind (From from) = refl
+  ended None Behind (To to) = refl
+  ended None Behind (FromTo from to) = refl
+  ended None Behind (ToFrom to from) = refl
+  ended (Some file) Nowhere Neither = refl
+  ended (Some file) Nowhere (From from) = refl
+  ended (Some file) Nowhere (To to) = refl
+  ended (Some file) Nowhere (FromTo from to) = refl
+  ended (Some file) Nowhere (ToFrom to from) = refl
+  ended (Some file) Before Neither = refl
+  ended (Some file) Before (From from) = refl
+  ended (Some file) Before (To to) = refl
+  ended (Some file) Before (FromTo from to) = refl
+  ended (Some file) Before (ToFrom to from) = refl
+  ended (Some file) BehindFirst Neither = refl
+  ended (Some file) BehindFirst (From from) = refl
+  ended (Some file) BehindFirst (To to) = refl
+  ended (Some file) BehindFirst (FromTo from to) = refl
+  ended (Some file) BehindFirst (ToFrom to from) = refl
+  ended (Some file) Behind Neither = refl
+  ended (Some file) Behind (From from) = refl
+  ended (Some file) Behind (To to) = refl
+  ended (Some file) Behind (FromTo from to) = refl
+  ended (Some file) Behind (ToFrom to from) = refl
 
   guard_level : (flag : Flag) (options : Options) → ArePlain options
       → epochs_by (from_text options) (to_text options) ≡ Some f.epochs
       → guard_seen (level s (guard_words f zones flag options)) ≡ ([], Some (Guard f zones (is_tracked flag)))
   guard_level flag options p e =
-      ap guard_seen (names_walked (flagged_words flag options) ∙ options_walked flag options p)
-      ∙ ended flag options
+      ap guard_seen (names_walked (station_words f.station (flagged_words flag options))
+      ∙ station_walked f.station (flagged_words flag options) n.4
+      ∙ options_walked f.station flag options p)
+      ∙ ended f.station flag options
       ∙ ap (λ (o : Option Epochs).
-      let both : GuardSeen = ([], guard_of (files_of (Some f.obs) (Some f.nav) (Some f.settings) (Some f.log) o) (Some zones) (is_tracked flag)) in both) e
+      let both : GuardSeen = ([], guard_of (files_of (Some f.obs) (Some f.nav) (Some f.settings) (Some f.log) o f.station) (Some zones) (is_tracked flag)) in both) e
 
 abbrev guard_told : GuardSeen → Option Command
 guard_told l = if is_empty (or_else l.0 []) then l.1 else None
 
-guard_said : (f : Files) (zones : Text) (flag : Flag) (options : Options)
-    → command_of (codes "guard" ∷ guard_words f zones flag options) ≡ guard_told (guard_seen (level guard_shape (guard_words f zones flag options)))
+guard_said : (words : List Text)
+    → command_of (codes "guard" ∷ words) ≡ guard_told (guard_seen (level guard_shape words))
 unfolding clap_on_literals
-guard_said f zones Nowhere Neither = refl
-guard_said f zones Nowhere (From from) = refl
-guard_said f zones Nowhere (To to) = refl
-guard_said f zones Nowhere (FromTo from to) = refl
-guard_said f zones Nowhere (ToFrom to from) = refl
-guard_said f zones Before Neither = refl
-guard_said f zones Before (From from) = refl
-guard_said f zones Before (To to) = refl
-guard_said f zones Before (FromTo from to) = refl
-guard_said f zones Before (ToFrom to from) = refl
-guard_said f zones BehindFirst Neither = refl
-guard_said f zones BehindFirst (From from) = refl
-guard_said f zones BehindFirst (To to) = refl
-guard_said f zones BehindFirst (FromTo from to) = refl
-guard_said f zones BehindFirst (ToFrom to from) = refl
-guard_said f zones Behind Neither = refl
-guard_said f zones Behind (From from) = refl
-guard_said f zones Behind (To to) = refl
-guard_said f zones Behind (FromTo from to) = refl
-guard_said f zones Behind (ToFrom to from) = refl
+guard_said words = said_of (codes "guard") words refl refl
 
 pub guard_taken : GuardIsTaken
 guard_taken f zones flag options names zone e =
-    guard_said f zones flag options ∙ ap guard_told (guard_level f zones names zone flag options (plain_options options f.epochs e) e)
+    guard_said (guard_words f zones flag options) ∙ ap guard_told (guard_level f zones names zone flag options (plain_options options f.epochs e) e)

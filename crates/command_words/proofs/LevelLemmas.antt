@@ -1,14 +1,15 @@
 -- What clap makes of the words behind a subcommand's name, one word at a time.
-use Rattle.std.proofs.Common.{◌≡◌, ℕ, Bool, true, false, List, [], ◌∷◌, None, get_or, refl, ap, ◌∙◌}
-use Rattle.std.specs.Prelude.{fold, if◌then◌else◌}
+use Rattle.std.proofs.Common.{◌≡◌, ◌++◌, ℕ, Bool, true, false, List, [], ◌∷◌, Option, None, Some, get_or, refl, sym, ap, ◌∙◌, append_assoc, append-nil}
+use Rattle.std.specs.Prelude.{fold, is_some, if◌then◌else◌}
 use Rattle.std.specs.Option.{option_map_or}
 use Rattle.std.specs.Str.{bytes_eq}
 use Rattle.clap.specs.Lexer.{long_of, short_of}
 use Rattle.clap.specs.Kinds.{Kinds, or_else}
-use Rattle.clap.specs.Walk.{Text, Row, Rule, Held, Step, Walk, Waiting, idle, option, value, trailing, word_met, walked, after_step, to_positional, arg_by_index, plain_word, long_or_other, short_or_plain, nothing_held, walk_from, finished, settled, rows_after}
-use Rattle.clap.specs.Simple.{Shape, built, is_simple}
-use Rattle.clap.specs.Faults.{level_fault, walk_fault, turn_fault, other_fault, flag_word_fault, bundle_fault, step_fault, settle_fault, defaults_fault, check_fault, is_simple_and_free}
+use Rattle.clap.specs.Walk.{Text, Row, Rule, Held, Step, Walk, Waiting, Names, is_empty, idle, option, value, trailing, word_met, walked, after_step, to_positional, arg_by_index, plain_word, long_or_other, short_or_plain, nothing_held, walk_from, finished, settled, rows_after}
+use Rattle.clap.specs.Simple.{Shape, built, entered, is_simple, names_of}
+use Rattle.clap.specs.Faults.{level_fault, walk_fault, turn_fault, other_fault, flag_word_fault, bundle_fault, step_fault, settle_fault, defaults_fault, check_fault, entered_fault, is_simple_and_free}
 use Rattle.clap.proofs.OnLiterals.{clap_on_literals}
+use Rattle.command_words.specs.Commands.{Command, command_of, command_said}
 use Rattle.command_words.specs.Program.{program, bare, files_form, form_app, with_command}
 use Rattle.command_words.specs.Stated.{begins_with_dash}
 
@@ -185,3 +186,74 @@ pub value_more : (s : Shape) (h : Held) (id : Text) (position : ℕ) (word : Tex
     → level_from s (at h (option id) position) (word ∷ rest) ≡ level_from s (behind_value s.rules h id position word) rest
 value_more s h id position word rest e passes =
     more s (at h (option id) position) _ word rest (value_turn s h id position word e passes) (value_walked s.rules h id position word e)
+
+-- ---- an option with its text
+
+module _ (s : Shape) (position : ℕ) where
+  -- the walk behind an option, which waits for its text
+  abbrev pub waits : Walk → Text → Walk
+  waits w id = at (record (settled s.rules w.held) { pending = Some (id, []) }) (option id) position
+
+  -- and behind that text
+  abbrev pub read : Walk → Text → Text → Walk
+  read w id text = behind_value s.rules (waits w id).held id position text
+
+  pub read_more : (w : Walk) (word id text : Text) (rest : List Text) → turn_fault s [] w word ≡ []
+      → walked s.rules [] w word ≡ waits w id
+      → step_fault s position (plain_word s.rules (option id) text (waits w id).held).0 (plain_word s.rules (option id) text (waits w id).held).1 ≡ []
+      → begins_with_dash text ≡ false
+      → level_from s w (word ∷ text ∷ rest) ≡ level_from s (read w id text) rest
+  read_more w word id text rest passes is step name =
+      more s w (waits w id) word (text ∷ rest) passes is
+      ∙ value_more s (waits w id).held id position text rest name step
+
+-- ---- a command's name and the words behind it
+
+abbrev top : Shape
+top = (built program).top
+
+abbrev names : Names
+names = names_of (built program)
+
+-- the walk over the program's words has met a command's name and these words behind it
+abbrev pub stopped_at : Text → List Text → Walk
+stopped_at name words = record (walk_from nothing_held) { stopped = Some (name, words) }
+
+stays : (name : Text) (seen words : List Text)
+    → fold (walked top.rules names) (stopped_at name seen) words ≡ stopped_at name (seen ++ words)
+unfolding walked
+stays name seen [] = ap (stopped_at name) (sym (append-nil seen))
+stays name seen (word ∷ words) =
+    stays name (seen ++ word ∷ []) words
+    ∙ ap (stopped_at name) (append_assoc seen (word ∷ []) words)
+
+calm : (name : Text) (seen words : List Text) → walk_fault top names (stopped_at name seen) words ≡ []
+unfolding walked walk_fault
+calm name seen [] = refl
+calm name seen (word ∷ words) = calm name (seen ++ word ∷ []) words
+
+-- the command where the walk ends so, and its words have these faults
+abbrev pub told_by : Walk → Kinds → Option Command
+told_by w faults =
+    if is_empty (or_else faults
+    (or_else (entered_fault (built program) w.stopped)
+    (or_else (settle_fault top.rules top.args_override_self w.held)
+    (or_else (defaults_fault (settled top.rules w.held).rows top.rules)
+    (check_fault top (finished top.rules w.held) (is_some (entered (built program) w.stopped)))))))
+    then command_said (entered (built program) w.stopped) else None
+
+pub said_of : (name : Text) (words : List Text)
+    → walked top.rules names (walk_from nothing_held) name ≡ stopped_at name []
+    → turn_fault top names (walk_from nothing_held) name ≡ []
+    → command_of (name ∷ words) ≡ told_by (stopped_at name words) []
+unfolding walk_fault
+said_of name words is passes =
+    ap (λ (w : Walk).
+    told_by (fold (walked top.rules names) w words)
+    (or_else (turn_fault top names (walk_from nothing_held) name) (walk_fault top names w words))) is
+    ∙ ap (λ (k : Kinds).
+    told_by (fold (walked top.rules names) (stopped_at name []) words)
+    (or_else k (walk_fault top names (stopped_at name []) words))) passes
+    ∙ ap (λ (k : Kinds). told_by (fold (walked top.rules names) (stopped_at name []) words) k)
+    (calm name [] words)
+    ∙ ap (λ (w : Walk). told_by w []) (stays name [] words)

@@ -89,7 +89,10 @@ files_set = (
       record { set = inl refl; some = inl refl },
       (
         record { set = inl refl; some = inl refl },
-        (record { set = inl refl; some = inl refl }, (record { set = inl refl; some = inl refl }, tt)),
+        (
+          record { set = inl refl; some = inl refl },
+          (record { set = inl refl; some = inl refl }, (record { set = inl refl; some = inl refl }, tt)),
+        ),
       ),
     ),
   ),
@@ -135,7 +138,10 @@ guard_set = (
             record { set = inl refl; some = inl refl },
             (
               record { set = inl refl; some = inl refl },
-              (record { set = inr refl; some = inr (λ none. cc) }, tt),
+              (
+                record { set = inl refl; some = inl refl },
+                (record { set = inr refl; some = inr (λ none. cc) }, tt),
+              ),
             ),
           ),
         ),

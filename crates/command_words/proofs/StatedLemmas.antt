@@ -2,14 +2,13 @@
 use Rattle.std.proofs.Common.{◌≡◌, ℕ, false, List, [], ◌∷◌, Option, Some, None, codes, refl, ap, ◌∙◌}
 use Rattle.std.specs.Prelude.{option_map, if◌then◌else◌}
 use Rattle.clap.specs.Kinds.{Kinds, or_else}
-use Rattle.clap.specs.Walk.{Text, Walk, idle, option, to_positional, arg_by_index, nothing_held, settled, walked, is_empty}
+use Rattle.clap.specs.Walk.{Text, Walk, idle, to_positional, arg_by_index, nothing_held, is_empty}
 use Rattle.clap.specs.Simple.{Shape}
-use Rattle.clap.specs.Faults.{turn_fault}
 use Rattle.clap.proofs.OnLiterals.{clap_on_literals}
 use Rattle.command_words.specs.Numbers.{seed_number, count_number, epoch_number, last_epoch}
 use Rattle.command_words.specs.Commands.{Epochs, Files, Command, Judge, Pave, Solve, Check, Track, Retrack, files_by, files_of, epochs_of, epochs_by, command_by, command_of, make_of}
-use Rattle.command_words.specs.Stated.{begins_with_dash, IsName, AreNames, Options, Neither, From, To, FromTo, ToFrom, from_text, to_text, file_words, option_words, JudgeIsTaken, FilesAreTaken, MakeIsTaken}
-use Rattle.command_words.proofs.LevelLemmas.{judge_shape, pave_shape, files_shape, make_shape, Level, level, level_from, level_is, at, more, name_more, value_more, behind_value}
+use Rattle.command_words.specs.Stated.{begins_with_dash, IsName, IsNameIfGiven, AreNames, Options, Neither, From, To, FromTo, ToFrom, from_text, to_text, file_words, option_words, station_words, JudgeIsTaken, FilesAreTaken, MakeIsTaken}
+use Rattle.command_words.proofs.LevelLemmas.{judge_shape, pave_shape, files_shape, make_shape, Level, level, level_from, level_is, at, name_more, read, read_more, said_of}
 use Rattle.command_words.proofs.NumberLemmas.{number_plain}
 
 -- the command of a subcommand's level
@@ -99,10 +98,12 @@ FilesSeen = Kinds × Option Files
 abbrev files_seen : Level → FilesSeen
 files_seen l = (l.0, files_by l.1)
 
--- the names, and the epochs that the options say
-abbrev asked_of : Files → Options → FilesSeen
-asked_of f options =
-    ([], files_of (Some f.obs) (Some f.nav) (Some f.settings) (Some f.log) (epochs_by (from_text options) (to_text options)))
+-- the names, and what the options say
+abbrev asked_of : Files → Option Text → Options → FilesSeen
+asked_of f station options = (
+  [],
+  files_of (Some f.obs) (Some f.nav) (Some f.settings) (Some f.log) (epochs_by (from_text options) (to_text options)) station,
+)
 
 -- the texts of the options don't begin with a dash
 abbrev pub ArePlain : Options → Type 0
@@ -157,161 +158,116 @@ module _ (name : Text) (f : Files) (n : AreNames f) where
       ∙ name_more s f₂.held 3 f.settings (f.log ∷ rest) n.2 refl
       ∙ name_more s f₃.held 4 f.log rest n.3 refl
 
-  -- an option waits for its text
-  abbrev waits : Walk → Text → Walk
-  waits w id = at (record (settled s.rules w.held) { pending = Some (id, []) }) (option id) 5
+  -- where the walk stands behind the station's file, where one is given
+  abbrev stationed : Option Text → Walk
+  stationed None = f₄
+  stationed (Some file) = read s 5 f₄ (codes "station") file
 
-  abbrev read : Walk → Text → Text → Walk
-  read w id text = behind_value s.rules (waits w id).held id 5 text
-
-  abbrev from_id : Text
-  from_id = codes "from"
-
-  abbrev to_id : Text
-  to_id = codes "to"
-
-  from_turn : turn_fault s [] f₄ (codes "--from") ≡ []
+  station_walked : (station : Option Text) (rest : List Text) → IsNameIfGiven station
+      → level_from s f₄ (station_words station rest) ≡ level_from s (stationed station) rest
   unfolding clap_on_literals
-  from_turn = refl
+  station_walked None rest name = refl
+  station_walked (Some file) rest name =
+      read_more s 5 f₄ (codes "--station") (codes "station") file rest refl refl refl name
 
-  from_walked : walked s.rules [] f₄ (codes "--from") ≡ waits f₄ from_id
+  abbrev from_of : Walk → Text → Walk
+  from_of w from = read s 5 w (codes "from") from
+
+  abbrev to_of : Walk → Text → Walk
+  to_of w to = read s 5 w (codes "to") to
+
+  -- and behind the other options
+  abbrev last_walk : Walk → Options → Walk
+  last_walk w Neither = w
+  last_walk w (From from) = from_of w from
+  last_walk w (To to) = to_of w to
+  last_walk w (FromTo from to) = to_of (from_of w from) to
+  last_walk w (ToFrom to from) = from_of (to_of w to) from
+
+  options_walked : (station : Option Text) (options : Options) → ArePlain options
+      → level_from s (stationed station) (option_words options) ≡ level_from s (last_walk (stationed station) options) []
   unfolding clap_on_literals
-  from_walked = refl
+  options_walked None Neither p = refl
+  options_walked None (From from) p =
+      read_more s 5 f₄ (codes "--from") (codes "from") from [] refl refl refl p
+  options_walked None (To to) p =
+      read_more s 5 f₄ (codes "--to") (codes "to") to [] refl refl refl p
+  options_walked None (FromTo from to) p =
+      read_more s 5 f₄ (codes "--from") (codes "from") from (codes "--to" ∷ to ∷ []) refl refl refl p.0
+      ∙ read_more s 5 (from_of f₄ from) (codes "--to") (codes "to") to [] refl refl refl p.1
+  options_walked None (ToFrom to from) p =
+      read_more s 5 f₄ (codes "--to") (codes "to") to (codes "--from" ∷ from ∷ []) refl refl refl p.1
+      ∙ read_more s 5 (to_of f₄ to) (codes "--from") (codes "from") from [] refl refl refl p.0
+  options_walked (Some file) Neither p = refl
+  options_walked (Some file) (From from) p =
+      read_more s 5 (stationed (Some file)) (codes "--from") (codes "from") from [] refl refl refl p
+  options_walked (Some file) (To to) p =
+      read_more s 5 (stationed (Some file)) (codes "--to") (codes "to") to [] refl refl refl p
+  options_walked (Some file) (FromTo from to) p =
+      read_more s 5 (stationed (Some file)) (codes "--from") (codes "from") from (codes "--to" ∷ to ∷ []) refl refl refl p.0
+      ∙ read_more s 5 (from_of (stationed (Some file)) from) (codes "--to") (codes "to") to [] refl refl refl p.1
+  options_walked (Some file) (ToFrom to from) p =
+      read_more s 5 (stationed (Some file)) (codes "--to") (codes "to") to (codes "--from" ∷ from ∷ []) refl refl refl p.1
+      ∙ read_more s 5 (to_of (stationed (Some file)) to) (codes "--from") (codes "from") from [] refl refl refl p.0
 
-  from_first : (from : Text) (rest : List Text) → IsName from
-      → level_from s f₄ (codes "--from" ∷ from ∷ rest) ≡ level_from s (read f₄ from_id from) rest
-  from_first from rest e =
-      more s f₄ (waits f₄ from_id) (codes "--from") (from ∷ rest) from_turn from_walked
-      ∙ value_more s (waits f₄ from_id).held from_id 5 from rest e refl
-
-  to_turn : turn_fault s [] f₄ (codes "--to") ≡ []
-  unfolding clap_on_literals
-  to_turn = refl
-
-  to_walked : walked s.rules [] f₄ (codes "--to") ≡ waits f₄ to_id
-  unfolding clap_on_literals
-  to_walked = refl
-
-  to_first : (to : Text) (rest : List Text) → IsName to
-      → level_from s f₄ (codes "--to" ∷ to ∷ rest) ≡ level_from s (read f₄ to_id to) rest
-  to_first to rest e =
-      more s f₄ (waits f₄ to_id) (codes "--to") (to ∷ rest) to_turn to_walked
-      ∙ value_more s (waits f₄ to_id).held to_id 5 to rest e refl
-
-  second_to_turn : (from : Text) → turn_fault s [] (read f₄ from_id from) (codes "--to") ≡ []
-  unfolding clap_on_literals
-  second_to_turn from = refl
-
-  second_to_walked : (from : Text)
-      → walked s.rules [] (read f₄ from_id from) (codes "--to") ≡ waits (read f₄ from_id from) to_id
-  unfolding clap_on_literals
-  second_to_walked from = refl
-
-  to_second : (from to : Text) → IsName to
-      → level_from s (read f₄ from_id from) (codes "--to" ∷ to ∷ []) ≡ level_from s (read (read f₄ from_id from) to_id to) []
-  to_second from to e =
-      more s (read f₄ from_id from) (waits (read f₄ from_id from) to_id) (codes "--to") (to ∷ []) (second_to_turn from) (second_to_walked from)
-      ∙ value_more s (waits (read f₄ from_id from) to_id).held to_id 5 to [] e refl
-
-  second_from_turn : (to : Text) → turn_fault s [] (read f₄ to_id to) (codes "--from") ≡ []
-  unfolding clap_on_literals
-  second_from_turn to = refl
-
-  second_from_walked : (to : Text)
-      → walked s.rules [] (read f₄ to_id to) (codes "--from") ≡ waits (read f₄ to_id to) from_id
-  unfolding clap_on_literals
-  second_from_walked to = refl
-
-  from_second : (to from : Text) → IsName from
-      → level_from s (read f₄ to_id to) (codes "--from" ∷ from ∷ []) ≡ level_from s (read (read f₄ to_id to) from_id from) []
-  from_second to from e =
-      more s (read f₄ to_id to) (waits (read f₄ to_id to) from_id) (codes "--from") (from ∷ []) (second_from_turn to) (second_from_walked to)
-      ∙ value_more s (waits (read f₄ to_id to) from_id).held from_id 5 from [] e refl
-
-  -- where the walk stands behind the options
-  abbrev last_walk : Options → Walk
-  last_walk Neither = f₄
-  last_walk (From from) = read f₄ from_id from
-  last_walk (To to) = read f₄ to_id to
-  last_walk (FromTo from to) = read (read f₄ from_id from) to_id to
-  last_walk (ToFrom to from) = read (read f₄ to_id to) from_id from
-
-  options_walked : (options : Options) → ArePlain options
-      → level_from s f₄ (option_words options) ≡ level_from s (last_walk options) []
-  options_walked Neither p = refl
-  options_walked (From from) p = from_first from [] p
-  options_walked (To to) p = to_first to [] p
-  options_walked (FromTo from to) p = from_first from (codes "--to" ∷ to ∷ []) p.0 ∙ to_second from to p.1
-  options_walked (ToFrom to from) p = to_first to (codes "--from" ∷ from ∷ []) p.1 ∙ from_second to from p.0
-
-  ended : (options : Options)
-      → files_seen (level_from s (last_walk options) []) ≡ asked_of f options
+  ended : (station : Option Text) (options : Options)
+      → files_seen (level_from s (last_walk (stationed station) options) []) ≡ asked_of f station options
   unfolding level_from clap_on_literals
-  ended Neither = refl
-  ended (From from) = refl
-  ended (To to) = refl
-  ended (FromTo from to) = refl
-  ended (ToFrom to from) = refl
+  ended None Neither = refl
+  ended None (From from) = refl
+  ended None (To to) = refl
+  ended None (FromTo from to) = refl
+  ended None (ToFrom to from) = refl
+  ended (Some file) Neither = refl
+  ended (Some file) (From from) = refl
+  ended (Some file) (To to) = refl
+  ended (Some file) (FromTo from to) = refl
+  ended (Some file) (ToFrom to from) = refl
 
   files_level : (options : Options) → ArePlain options
       → epochs_by (from_text options) (to_text options) ≡ Some f.epochs
       → files_seen (level s (file_words f options)) ≡ ([], Some f)
   files_level options p e =
-      ap files_seen (names_walked (option_words options) ∙ options_walked options p)
-      ∙ ended options
-      ∙ ap (λ o. let both : FilesSeen = ([], files_of (Some f.obs) (Some f.nav) (Some f.settings) (Some f.log) o) in both) e
+      ap files_seen (names_walked (station_words f.station (option_words options))
+      ∙ station_walked f.station (option_words options) n.4 ∙ options_walked f.station options p)
+      ∙ ended f.station options
+      ∙ ap (λ (o : Option Epochs). let both : FilesSeen = ([], files_of (Some f.obs) (Some f.nav) (Some f.settings) (Some f.log) o f.station) in both) e
 
 abbrev files_said : (Files → Command) → FilesSeen → Option Command
 files_said made l = if is_empty (or_else l.0 []) then option_map made l.1 else None
 
-solve_said : (f : Files) (options : Options)
-    → command_of (codes "solve" ∷ file_words f options) ≡ files_said Solve (files_seen (level (files_shape (codes "solve")) (file_words f options)))
+solve_said : (words : List Text)
+    → command_of (codes "solve" ∷ words) ≡ files_said Solve (files_seen (level (files_shape (codes "solve")) words))
 unfolding clap_on_literals
-solve_said f Neither = refl
-solve_said f (From from) = refl
-solve_said f (To to) = refl
-solve_said f (FromTo from to) = refl
-solve_said f (ToFrom to from) = refl
+solve_said words = said_of (codes "solve") words refl refl
 
-check_said : (f : Files) (options : Options)
-    → command_of (codes "check" ∷ file_words f options) ≡ files_said Check (files_seen (level (files_shape (codes "check")) (file_words f options)))
+check_said : (words : List Text)
+    → command_of (codes "check" ∷ words) ≡ files_said Check (files_seen (level (files_shape (codes "check")) words))
 unfolding clap_on_literals
-check_said f Neither = refl
-check_said f (From from) = refl
-check_said f (To to) = refl
-check_said f (FromTo from to) = refl
-check_said f (ToFrom to from) = refl
+check_said words = said_of (codes "check") words refl refl
 
-track_said : (f : Files) (options : Options)
-    → command_of (codes "track" ∷ file_words f options) ≡ files_said Track (files_seen (level (files_shape (codes "track")) (file_words f options)))
+track_said : (words : List Text)
+    → command_of (codes "track" ∷ words) ≡ files_said Track (files_seen (level (files_shape (codes "track")) words))
 unfolding clap_on_literals
-track_said f Neither = refl
-track_said f (From from) = refl
-track_said f (To to) = refl
-track_said f (FromTo from to) = refl
-track_said f (ToFrom to from) = refl
+track_said words = said_of (codes "track") words refl refl
 
-retrack_said : (f : Files) (options : Options)
-    → command_of (codes "retrack" ∷ file_words f options) ≡ files_said Retrack (files_seen (level (files_shape (codes "retrack")) (file_words f options)))
+retrack_said : (words : List Text)
+    → command_of (codes "retrack" ∷ words) ≡ files_said Retrack (files_seen (level (files_shape (codes "retrack")) words))
 unfolding clap_on_literals
-retrack_said f Neither = refl
-retrack_said f (From from) = refl
-retrack_said f (To to) = refl
-retrack_said f (FromTo from to) = refl
-retrack_said f (ToFrom to from) = refl
+retrack_said words = said_of (codes "retrack") words refl refl
 
 pub solve_taken : FilesAreTaken (codes "solve") Solve
 solve_taken f options names e =
-    solve_said f options ∙ ap (files_said Solve) (files_level (codes "solve") f names options (plain_options options f.epochs e) e)
+    solve_said (file_words f options) ∙ ap (files_said Solve) (files_level (codes "solve") f names options (plain_options options f.epochs e) e)
 
 pub check_taken : FilesAreTaken (codes "check") Check
 check_taken f options names e =
-    check_said f options ∙ ap (files_said Check) (files_level (codes "check") f names options (plain_options options f.epochs e) e)
+    check_said (file_words f options) ∙ ap (files_said Check) (files_level (codes "check") f names options (plain_options options f.epochs e) e)
 
 pub track_taken : FilesAreTaken (codes "track") Track
 track_taken f options names e =
-    track_said f options ∙ ap (files_said Track) (files_level (codes "track") f names options (plain_options options f.epochs e) e)
+    track_said (file_words f options) ∙ ap (files_said Track) (files_level (codes "track") f names options (plain_options options f.epochs e) e)
 
 pub retrack_taken : FilesAreTaken (codes "retrack") Retrack
 retrack_taken f options names e =
-    retrack_said f options ∙ ap (files_said Retrack) (files_level (codes "retrack") f names options (plain_options options f.epochs e) e)
+    retrack_said (file_words f options) ∙ ap (files_said Retrack) (files_level (codes "retrack") f names options (plain_options options f.epochs e) e)

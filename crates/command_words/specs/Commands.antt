@@ -14,11 +14,12 @@ pub record Epochs : Type 0 where
   pub from : ℕ
   pub to : ℕ
 
--- the names of files, and the epochs that are taken
+-- the names of files, one of a station where it is given, and the epochs that are taken
 pub record Files : Type 0 where
   pub obs : Text
   pub nav : Text
   pub settings : Text
+  pub station : Option Text
   pub log : Text
   pub epochs : Epochs
 
@@ -52,10 +53,17 @@ abbrev pub epochs_by : Option Text → Option Text → Option Epochs
 epochs_by from to = epochs_of (epoch_or 1 from) (epoch_or last_epoch to)
 
 abbrev pub files_of : Option Text → Option Text → Option Text → Option Text → Option Epochs
-    → Option Files
-files_of (Some obs) (Some nav) (Some settings) (Some log) (Some epochs) =
-    Some (record { obs = obs; nav = nav; settings = settings; log = log; epochs = epochs })
-files_of _ _ _ _ _ = None
+    → (station : Option Text) → Option Files
+files_of (Some obs) (Some nav) (Some settings) (Some log) (Some epochs) station =
+    Some (record {
+      obs = obs;
+      nav = nav;
+      settings = settings;
+      station = station;
+      log = log;
+      epochs = epochs;
+    })
+files_of _ _ _ _ _ _ = None
 
 -- what clap keeps of a flag says whether it is there
 abbrev pub is_said : Option Text → Bool
@@ -83,6 +91,7 @@ files_by rows =
     files_of (first_of (codes "obs") rows) (first_of (codes "nav") rows)
     (first_of (codes "settings") rows) (first_of (codes "log") rows)
     (epochs_by (first_of (codes "from") rows) (first_of (codes "to") rows))
+    (first_of (codes "station") rows)
 
 abbrev pub guard_by : List Row → Option Command
 guard_by rows =

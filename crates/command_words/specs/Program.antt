@@ -42,16 +42,16 @@ pave_form = record {
   flags = [];
 }
 
--- `--from N` and `--to N`
-abbrev pub epochs : List Text
-epochs = codes "from" ∷ codes "to" ∷ []
+-- `--from N`, `--to N` and `--station FILE`
+abbrev pub file_options : List Text
+file_options = codes "from" ∷ codes "to" ∷ codes "station" ∷ []
 
 -- `solve OBS NAV SETTINGS LOG`, and `check`, `track` and `retrack` with the same words
 abbrev pub files_form : Text → Form
 files_form name = record {
   name = name;
   words = codes "obs" ∷ codes "nav" ∷ codes "settings" ∷ codes "log" ∷ [];
-  options = epochs;
+  options = file_options;
   flags = [];
 }
 
@@ -60,7 +60,7 @@ abbrev pub guard_form : Form
 guard_form = record {
   name = codes "guard";
   words = codes "obs" ∷ codes "nav" ∷ codes "settings" ∷ codes "zones" ∷ codes "log" ∷ [];
-  options = epochs;
+  options = file_options;
   flags = codes "track" ∷ [];
 }
 

@@ -1,5 +1,5 @@
 -- The command that a parsed one stands for.
-use Rattle.std.specs.Prelude.{◌≤◌, List, map, String, string_bytes}
+use Rattle.std.specs.Prelude.{◌≤◌, List, map, option_map, String, string_bytes}
 use Rattle.std.specs.declared.alloc.Global.{Global}
 use Rattle.clap.specs.Walk.{Text}
 use Rattle.command_words.specs.Commands.{Epochs, Files, Command, Judge, Pave, Solve, Check, Track}
@@ -21,6 +21,7 @@ files_asked f = record {
   obs = f.obs.now;
   nav = f.nav.now;
   settings = f.settings.now;
+  station = option_map (λ name. name.now) f.station;
   log = f.log.now;
   epochs = epochs_asked f.selection;
 }

@@ -16,7 +16,12 @@ begins_with_dash (byte ∷ more) = byte == 45
 abbrev pub IsName : Text → Type 0
 IsName text = begins_with_dash text ≡ false
 
--- the options behind the names of files: each at most once, in either order
+-- the file of a station behind the names, where it is given, and then the other options
+abbrev pub station_words : Option Text → List Text → List Text
+station_words None others = others
+station_words (Some file) others = codes "--station" ∷ file ∷ others
+
+-- these: each at most once, in either order
 pub data Options : Type 0 where
   Neither : Options
   From : (from : Text) → Options
@@ -46,7 +51,8 @@ to_text (FromTo from to) = Some to
 to_text (ToFrom to from) = Some to
 
 abbrev pub file_words : Files → Options → List Text
-file_words f options = f.obs ∷ f.nav ∷ f.settings ∷ f.log ∷ option_words options
+file_words f options =
+    f.obs ∷ f.nav ∷ f.settings ∷ f.log ∷ station_words f.station (option_words options)
 
 -- `--track` among them: nowhere, or before the options, behind the first, or behind them all
 pub data Flag : Type 0 where
@@ -75,10 +81,16 @@ flagged_words Behind options = option_words options ++ codes "--track" ∷ []
 
 abbrev pub guard_words : Files → Text → Flag → Options → List Text
 guard_words f zones flag options =
-    f.obs ∷ f.nav ∷ f.settings ∷ zones ∷ f.log ∷ flagged_words flag options
+    f.obs ∷ f.nav ∷ f.settings ∷ zones ∷ f.log
+    ∷ station_words f.station (flagged_words flag options)
+
+abbrev pub IsNameIfGiven : Option Text → Type 0
+IsNameIfGiven None = Unit {0}
+IsNameIfGiven (Some text) = IsName text
 
 abbrev pub AreNames : Files → Type 0
-AreNames f = IsName f.obs × IsName f.nav × IsName f.settings × IsName f.log
+AreNames f =
+    IsName f.obs × IsName f.nav × IsName f.settings × IsName f.log × IsNameIfGiven f.station
 
 -- ---- words of the stated form ask for their command
 

@@ -7,12 +7,14 @@ pub struct Selection {
     pub to: u32,
 }
 
-/// The names of a receiver's files and of a log, and the epochs that are taken.
+/// The names of a receiver's files, of a station's where one is given, and of a log, and the epochs
+/// that are taken.
 #[derive(Clone, Copy, Debug, PartialEq, Eq)]
 pub struct Files<'a> {
     pub obs: &'a str,
     pub nav: &'a str,
     pub settings: &'a str,
+    pub station: Option<&'a str>,
     pub log: &'a str,
     pub selection: Selection,
 }

@@ -6,8 +6,8 @@ ghost use Rattle.command_words.specs.Stated.{JudgeIsTaken, PaveIsTaken, FilesAre
 ghost use Rattle.command_words.specs.Stated.{GuardIsTaken, MakeIsTaken, TakenIsCommand};
 
 /// Words of the stated form ask for their command: its name, its words, of which none begins with a
-/// dash, and then its options, each at most once. `--track` may stand between them. Each number is
-/// decimal digits in its range.
+/// dash, then `--station FILE` where it is given, and then its other options, each at most once.
+/// `--track` may stand between these. Each number is decimal digits in its range.
 pub fn stated_words_are_taken()
     ensures judge { JudgeIsTaken }
     ensures pave { PaveIsTaken }

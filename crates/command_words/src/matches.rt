@@ -127,7 +127,7 @@ fn pave_by<'a>(found: &ArgMatches<'a>) -> Option<Command<'a>>
     Some(Command::Pave { rows, log })
 }
 
-/// `OBS NAV SETTINGS LOG`, `--from N` and `--to N`.
+/// `OBS NAV SETTINGS LOG`, `--from N`, `--to N` and `--station FILE`.
 fn files_by<'a>(found: &ArgMatches<'a>) -> Option<Files<'a>>
     ensures files { option_map files_asked result ≡ files_by (rows_of (found_of found.now)) }
     ensures ranges { IfSome result (λ files. IsSelection files.selection) }
@@ -137,10 +137,12 @@ fn files_by<'a>(found: &ArgMatches<'a>) -> Option<Files<'a>>
     let settings = text_of(found, "settings")?;
     let log = text_of(found, "log")?;
     let selection = selection_by(text_of(found, "from"), text_of(found, "to"))?;
+    let station = text_of(found, "station");
     Some(Files {
         obs,
         nav,
         settings,
+        station,
         log,
         selection,
     })
@@ -156,7 +158,7 @@ fn is_said(flag: Option<&str>) -> bool
     }
 }
 
-/// `OBS NAV SETTINGS ZONES LOG`, `--from N`, `--to N` and `--track`.
+/// `OBS NAV SETTINGS ZONES LOG`, `--from N`, `--to N`, `--station FILE` and `--track`.
 fn guard_by<'a>(found: &ArgMatches<'a>) -> Option<Command<'a>>
     ensures command { option_map asked result ≡ guard_by (rows_of (found_of found.now)) }
     ensures ranges { IfSome result HasRanges }

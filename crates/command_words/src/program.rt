@@ -21,8 +21,8 @@ struct Form<'a> {
 /// The words of a command on a receiver's files and its log.
 const ON_FILES: &[&str] = &["obs", "nav", "settings", "log"];
 
-/// The options that choose epochs.
-const EPOCHS: &[&str] = &["from", "to"];
+/// The options of such a command: the epochs that are taken, and the file of a station.
+const OPTIONS: &[&str] = &["from", "to", "station"];
 
 /// The commands of the program.
 static FORMS: [Form<'static>; 8] = [
@@ -41,31 +41,31 @@ static FORMS: [Form<'static>; 8] = [
     Form {
         name: "solve",
         words: ON_FILES,
-        options: EPOCHS,
+        options: OPTIONS,
         flags: &[],
     },
     Form {
         name: "check",
         words: ON_FILES,
-        options: EPOCHS,
+        options: OPTIONS,
         flags: &[],
     },
     Form {
         name: "track",
         words: ON_FILES,
-        options: EPOCHS,
+        options: OPTIONS,
         flags: &[],
     },
     Form {
         name: "retrack",
         words: ON_FILES,
-        options: EPOCHS,
+        options: OPTIONS,
         flags: &[],
     },
     Form {
         name: "guard",
         words: &["obs", "nav", "settings", "zones", "log"],
-        options: EPOCHS,
+        options: OPTIONS,
         flags: &["track"],
     },
     Form {

@@ -9,14 +9,17 @@ use Rattle.input_files.specs.declared.inputs.Inputs.{Inputs}
 use Rattle.paving_log.proofs.LogLemmas.{one_spelled, log_spelling}
 use Rattle.log_lines.specs.Text.{IsLogText}
 use Rattle.log_lines.specs.declared.line.Kind.TheVariants as kind
+use Rattle.paving_log_check.specs.Admissible.{Admits}
 use Rattle.paving_log_check.specs.Checked.{IsRefused}
 use Rattle.paving_log_check.specs.declared.verdict.Fault.{Fault}
+use Rattle.gnss_model.specs.declared.delays.Delays.{Delays}
 use Rattle.grid_model.specs.Boxes.{GridBox}
 use Rattle.sat_model.specs.Logs.{LogValue}
 use Rattle.grid_model.specs.declared.boxes.Pos.{Pos}
 use Rattle.tube_searches.specs.Tubes.{tube_searches}
 use Rattle.cover_run.proofs.SameInputs.{root_there, own_there, admits_there, epochs_same}
 use Rattle.cover_run.proofs.SameInputs.{searches_same, tube_same}
+use Rattle.cover_run.proofs.SolvingLemmas.{files_delays}
 use Rattle.cover_run.specs.Checking.{Refuses}
 use Rattle.cover_run.specs.Rechecking.{RefusesTrack}
 use Rattle.cover_run.specs.Solving.{IsSolved, epochs_of, meaning_of}
@@ -51,7 +54,8 @@ not_refused chosen i j limit bytes said log fault same solved text refused =
     (sym (epochs_same i j same chosen)) in
     let admits = solved.admits r.owns
     (own_there i j same here there whole.log.blocks r.owns back r.are_own) in
-    r.refused (admits_there i j same here there r.owns whole.log alike admits)
+    r.refused (subst (λ (delays : Delays). Admits delays there r.owns j.settings.rules whole.log)
+    (sym (files_delays j)) (admits_there i j same here there r.owns whole.log alike admits))
 
 -- ---- a track
 
@@ -89,4 +93,5 @@ track_not_refused chosen i j limit bytes said log fault same tracked text refuse
     (epochs_of chosen i) whole.log.blocks (sym (epochs_same i j same chosen)) in
     let admits = tracked.admits r.owns
     (own_there i j same here there whole.log.blocks r.owns back r.are_own) in
-    r.refused (admits_there i j same here there r.owns whole.log alike admits)
+    r.refused (subst (λ (delays : Delays). Admits delays there r.owns j.settings.rules whole.log)
+    (sym (files_delays j)) (admits_there i j same here there r.owns whole.log alike admits))

@@ -3,13 +3,17 @@
 use Rattle.std.proofs.Common.{◌≡◌, ◌⊎◌, ◌≤◌, ℕ, Bool, true, false, List, length, Option, None, Some, Result, Ok}
 use Rattle.std.proofs.Common.{Err}
 use Rattle.std.proofs.Common.{inl, inr, refl, sym, ap, subst, ◌∙◌, arith}
-use Rattle.std.specs.Prelude.{◌≢◌}
+use Rattle.std.specs.Prelude.{◌≢◌, IfSome, is_some}
 use Rattle.std.specs.FinMap as map
 use Rattle.std.specs.Option.{option_map}
 use Rattle.command_words.specs.Commands as words
 use Rattle.input_files.proofs.GrammarLemmas.{no_first}
-use Rattle.input_files.specs.Inputs.{InputsValue, ReadsFor, input_files, inputs_value, nav_text, obs_text, message_of, sought_of}
-use Rattle.input_files.specs.Inputs.{settings_text, wants_position}
+use Rattle.error_bounds.specs.Texts as settings
+use Rattle.rinex_nav.specs.Records.{Broadcast}
+use Rattle.rinex_obs.specs.declared.sought.Sought.{Sought}
+use Rattle.input_files.specs.Inputs.{InputsValue, ReadsBehindNav, ReadsFor, ReadsNav, ReadsObs, ReadsStation, StationValue}
+use Rattle.input_files.specs.Inputs.{input_files, inputs_value, message_of, nav_text, obs_text}
+use Rattle.input_files.specs.Inputs.{settings_text, sought_of, station_text, wants_position}
 use Rattle.input_files.specs.Logs.{log_text}
 use Rattle.input_files.specs.Reading.{IsBrokenOff, MayBreak, NeverBreaks, ReadsFile, Settles, Text}
 use Rattle.input_files.specs.Reading.{file_in, limit_of, valued}
@@ -64,42 +68,55 @@ module _ (moving : Bool) (limits : Limits) (names : words.Files) (bytes : List �
       ReadsFile text (limit_of limits text.role) NeverBreaks f r)
       (ap Some (get-other told log name (Some bytes) other)) reads
 
+  station_before : (sought : Sought) (name : Option (List ℕ)) (declared : Option settings.StationValue)
+      → IfSome name (λ n. n ≢ log) → (r : Result (Option StationValue) Notice)
+      → ReadsStation limits sought name declared NeverBreaks (Some later) r
+      → ReadsStation limits sought name declared NeverBreaks (Some told) r
+  station_before sought None declared other r reads = reads
+  station_before sought (Some name) None other r reads = reads
+  station_before sought (Some name) (Some d) other r (inl (v, is, e)) =
+      inl (v, still (station_text sought d.place d.age) name (Ok v) other is, e)
+  station_before sought (Some name) (Some d) other r (inr (n, is, e)) =
+      inr (n, still (station_text sought d.place d.age) name (Err n) other is, e)
+
+  obs_before : (s : settings.SettingsValue) (records : List Broadcast) (station : Option StationValue)
+      (r : Result InputsValue Notice) → ReadsObs limits names s records station NeverBreaks (Some later) r
+      → ReadsObs limits names s records station NeverBreaks (Some told) r
+  obs_before s records station r (inl (o, is, e)) =
+      inl (o, still (obs_text (sought_of s) (wants_position s.centre) names.epochs) names.obs (Ok o) apart.obs is, e)
+  obs_before s records station r (inr (n, is, e)) =
+      inr (n, still (obs_text (sought_of s) (wants_position s.centre) names.epochs) names.obs (Err n) apart.obs is, e)
+
+  behind_nav_before : (s : settings.SettingsValue) (records : List Broadcast)
+      (r : Result InputsValue Notice) → ReadsBehindNav limits names s records NeverBreaks (Some later) r
+      → ReadsBehindNav limits names s records NeverBreaks (Some told) r
+  behind_nav_before s records r (inl (station, is, more)) = inl (
+    station,
+    station_before (sought_of s) names.station s.station apart.station (Ok station) is,
+    obs_before s records station r more,
+  )
+  behind_nav_before s records r (inr (n, is, e)) =
+      inr (n, station_before (sought_of s) names.station s.station apart.station (Err n) is, e)
+
+  nav_before : (s : settings.SettingsValue) (r : Result InputsValue Notice)
+      → ReadsNav limits names s NeverBreaks (Some later) r → ReadsNav limits names s NeverBreaks (Some told) r
+  nav_before s r (inl (records, is, more)) = inl (
+    records,
+    still (nav_text (message_of s)) names.nav (Ok records) apart.nav is,
+    behind_nav_before s records r more,
+  )
+  nav_before s r (inr (n, is, e)) = inr (n, still (nav_text (message_of s)) names.nav (Err n) apart.nav is, e)
+
   inputs_before : (r : Result InputsValue Notice)
       → ReadsFor moving limits names NeverBreaks (Some later) r
       → ReadsFor moving limits names NeverBreaks (Some told) r
+  inputs_before r (inl (s, is, more)) = inl (
+    s,
+    still (settings_text moving (is_some names.station)) names.settings (Ok s) apart.settings is,
+    nav_before s r more,
+  )
   inputs_before r (inr (n, is, e)) =
-      inr (n, still (settings_text moving) names.settings (Err n) apart.settings is, e)
-  inputs_before r (inl (s, is, inr (n, has, e))) = inl (
-    s,
-    still (settings_text moving) names.settings (Ok s) apart.settings is,
-    inr (n, still (nav_text (message_of s)) names.nav (Err n) apart.nav has, e),
-  )
-  inputs_before r (inl (s, is, inl (records, has, inr (n, sees, e)))) = inl (
-    s,
-    still (settings_text moving) names.settings (Ok s) apart.settings is,
-    inl (
-      records,
-      still (nav_text (message_of s)) names.nav (Ok records) apart.nav has,
-      inr (
-        n,
-        still (obs_text (sought_of s) (wants_position s.centre) names.epochs) names.obs (Err n) apart.obs sees,
-        e,
-      ),
-    ),
-  )
-  inputs_before r (inl (s, is, inl (records, has, inl (o, sees, e)))) = inl (
-    s,
-    still (settings_text moving) names.settings (Ok s) apart.settings is,
-    inl (
-      records,
-      still (nav_text (message_of s)) names.nav (Ok records) apart.nav has,
-      inl (
-        o,
-        still (obs_text (sought_of s) (wants_position s.centre) names.epochs) names.obs (Ok o) apart.obs sees,
-        e,
-      ),
-    ),
-  )
+      inr (n, still (settings_text moving (is_some names.station)) names.settings (Err n) apart.settings is, e)
 
   -- ---- the log is read as it was written
 

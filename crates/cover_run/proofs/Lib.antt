@@ -8,6 +8,7 @@ pub mod RecheckingLemmas
 pub mod ZoneLineLemmas
 pub mod ZoneTotalLemmas
 pub mod GuardingLemmas
+pub mod SameStations
 pub mod SameInputs
 pub mod AcceptLemmas
 pub mod Headline

@@ -96,4 +96,4 @@ module _ (seed count : ℕ) (made : Made) (m : IsMade seed count made) where
       → AreBetween 1 200000 (IsObsFile s.signal (wants_position s.centre) made.obs.items) seen
   obs_all s e =
       let file = obs_for s e in
-      (seen, file, sym (all_kept (alone s.signal) (wants_position s.centre) made.obs.items seen file))
+      (seen, file, sym (all_kept false (alone s.signal) (wants_position s.centre) made.obs.items seen file))

@@ -7,7 +7,7 @@ use mathlib.Core.HLevel.{is_prop→PathP}
 use Rattle.epoch_selection.specs.Searches.{Search, searches_in}
 use Rattle.epoch_selection.proofs.KeptLemmas.{same_selected}
 use Rattle.epoch_selection.specs.declared.selection.Selection.{Selection}
-use Rattle.error_bounds.specs.Reading.{galileo_use_of, bound_for, centre_with, IsRoot, value_of_settings}
+use Rattle.error_bounds.specs.Reading.{centre_with, IsRoot, value_of_settings}
 use Rattle.error_bounds.specs.Texts.{SettingsValue}
 use Rattle.input_files.specs.Inputs.{InputsValue, inputs_value}
 use Rattle.input_files.specs.declared.inputs.Inputs.{Inputs}
@@ -22,7 +22,6 @@ use Rattle.rinex_nav.specs.declared.record.NavRecord.{NavRecord}
 use Rattle.rinex_obs.specs.Epochs.{Observed}
 use Rattle.rinex_obs.specs.Reading.{plain_epoch, plain_epochs}
 use Rattle.rinex_obs.specs.declared.obs.ObsEpoch.{ObsEpoch}
-use Rattle.rinex_obs.specs.declared.obs.SatObs.{SatObs}
 use Rattle.grid_model.specs.Boxes.{GridBox}
 use Rattle.sat_model.specs.Events.{RowsOver}
 use Rattle.sat_model.specs.Logs.{Block, LogValue}
@@ -30,12 +29,12 @@ use Rattle.sat_model.specs.Relaxed.{ends}
 use Rattle.sat_model.specs.declared.rules.Rules.{Rules}
 use Rattle.gnss_model.specs.declared.delays.Delays.{Delays}
 use Rattle.grid_model.specs.declared.spans.Span.{Span}
-use Rattle.sat_rows.specs.Chains.{IsChainAt}
 use Rattle.sat_rows.specs.Meanings.{Meaning}
 use Rattle.sat_rows.specs.OwnRows.{AreOwnLines}
 use Rattle.tube_searches.specs.Tubes.{from_root, searches_from}
-use Rattle.usable_sats.specs.Usability.{Sighting, use_of, IsJudged}
-use Rattle.cover_run.specs.Solving.{IsRootOf, epochs_of, meaning_of}
+use Rattle.station_epochs.specs.Stations.{Station}
+use Rattle.cover_run.proofs.SameStations.{by_values, meaning_by, station_moved}
+use Rattle.cover_run.specs.Solving.{IsRootOf, epochs_of, meaning_of, station_in}
 use Rattle.grid_model.proofs.OrderLemmas.{le_prop as from_prop}
 use Rattle.made_input.proofs.FitLemmas.{same_record}
 
@@ -211,25 +210,6 @@ admits_same delays rules before (own ∷ owns) (a ∷ xs) (b ∷ ys) (block ∷ 
 
 -- ---- inputs
 
--- what the values alone say of satellites
-abbrev sighting_by : List NavRecord → SettingsValue → ℤ → SatObs → Sighting
-sighting_by records v tag seen = record {
-  records = records;
-  system = (use_of v.signal (galileo_use_of v.galileo) seen.sat).0;
-  signal = (use_of v.signal (galileo_use_of v.galileo) seen.sat).1;
-  max_age = v.max_age;
-  tag = tag;
-  seen = seen;
-}
-
-abbrev meaning_by : List NavRecord → SettingsValue → Delays → Meaning
-meaning_by records v delays = record {
-  judged = λ root tag seen. IsJudged delays root (sighting_by records v tag seen);
-  allows = λ tag seen. IsChainAt (sighting_by records v tag seen) delays (bound_for seen.sat v);
-  declared = λ sat. bound_for sat v;
-  delays = delays;
-}
-
 module _ (i j : Inputs) (same : inputs_value i ≡ inputs_value j) where
   settings_same : value_of_settings i.settings ≡ value_of_settings j.settings
   settings_same = ap (λ (v : InputsValue). v.settings) same
@@ -249,25 +229,33 @@ module _ (i j : Inputs) (same : inputs_value i ≡ inputs_value j) where
       (λ (v : InputsValue).
       IsRoot (centre_with v.obs.position v.settings.centre) v.settings.half root) (sym same) is
 
-  abbrev OwnBy : List NavRecord → SettingsValue → Delays → List Search → List Block
-      → List OwnLines → Type 0
-  OwnBy records v delays searches blocks owns =
-      AreOwn (meaning_by records v delays) searches blocks owns
+  abbrev OwnBy : List NavRecord → SettingsValue → Delays → Option Station → List Search
+      → List Block → List OwnLines → Type 0
+  OwnBy records v delays station searches blocks owns =
+      AreOwn (meaning_by records v delays station) searches blocks owns
 
   pub own_there : (xs ys : List Search) (blocks : List Block) (owns : List OwnLines)
       → AreSameSearches ys xs → AreOwn (meaning_of j) ys blocks owns
       → AreOwn (meaning_of i) xs blocks owns
   own_there xs ys blocks owns alike are =
+      let v = value_of_settings i.settings in
       let w = value_of_settings j.settings in
       let above = j.settings.delays in
+      let station = option_map station_in j.station in
       let nav = same_records i.nav j.nav (ap (λ (v : InputsValue). v.nav) same) in
-      let here = subst (λ (records : List NavRecord). OwnBy records w above ys blocks owns)
-      (sym nav) are in
-      let by = subst (λ (v : SettingsValue). OwnBy i.nav v above ys blocks owns)
+      let known = subst (λ (m : Meaning). AreOwn m ys blocks owns)
+      (by_values j.nav j.settings station) are in
+      let here = subst (λ (records : List NavRecord). OwnBy records w above station ys blocks owns)
+      (sym nav) known in
+      let by = subst (λ (v : SettingsValue). OwnBy i.nav v above station ys blocks owns)
       (sym settings_same) here in
-      let under = subst (λ (z : Delays).
-      OwnBy i.nav (value_of_settings i.settings) z ys blocks owns) (sym delays_same) by in
-      own_same (meaning_of i) ys xs blocks owns alike under
+      let under = subst (λ (z : Delays). OwnBy i.nav v z station ys blocks owns)
+      (sym delays_same) by in
+      let moved = station_moved i.nav v i.settings.delays j.station i.station
+      (sym (ap (λ (v : InputsValue). v.station) same)) ys blocks owns under in
+      own_same (meaning_of i) ys xs blocks owns alike
+      (subst (λ (m : Meaning). AreOwn m ys blocks owns)
+      (sym (by_values i.nav i.settings (option_map station_in i.station))) moved)
 
   pub admits_there : (xs ys : List Search) (owns : List OwnLines) (log : LogValue)
       → AreSameSearches xs ys → Admits i.settings.delays xs owns i.settings.rules log

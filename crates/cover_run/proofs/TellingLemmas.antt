@@ -88,6 +88,16 @@ pub yes_as : (told : Result Verdict NoMemory) (P Q : ℕ → Type 0) → ((boxes
 yes_as (Ok v) P Q on holds = yes_as_of v P Q on holds
 yes_as (Err e) P Q on holds = tt
 
+no_as_of : (v : Verdict) (P Q : Fault → Type 0) → ((fault : Fault) → P fault → Q fault) → IfNo v P
+    → IfNo v Q
+no_as_of (verdict.Yes boxes) P Q on holds = tt
+no_as_of (verdict.No fault) P Q on holds = on fault holds
+
+pub no_as : (told : Result Verdict NoMemory) (P Q : Fault → Type 0)
+    → ((fault : Fault) → P fault → Q fault) → IfOk told (λ v. IfNo v P) → IfOk told (λ v. IfNo v Q)
+no_as (Ok v) P Q on holds = no_as_of v P Q on holds
+no_as (Err e) P Q on holds = tt
+
 -- what holds of each yes and of each no, of the lines that say so
 module _ (verdict : Result Verdict NoMemory) where
   pub said_yes : (Accepts : ℕ → Type 0) → IfOk verdict (λ v. IfYes v Accepts) → (line : List ℕ)

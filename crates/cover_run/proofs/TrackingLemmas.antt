@@ -2,20 +2,26 @@
 use Rattle.std.proofs.Common.{◌≡◌, ◌≢◌, ℕ, suc, ◌+◌, ◌≤◌, Bool, true, false, List, [], ◌∷◌, ◌++◌, length, take}
 use Rattle.std.proofs.Common.{Option, None, Some, Ok, Err, inl, inr, refl, sym, ap, ap₂, subst, ◌∙◌, arith, append_assoc, append-nil}
 use Rattle.std.specs.Option.{option_map}
-use Rattle.std.specs.Prelude.{is_none}
+use Rattle.sharpness_laws.proofs.LogLemmas.{came_clear, whole_clear}
 use Rattle.sharpness_laws.specs.UsableRows.{AllDistinctIf}
+use Rattle.gnss_model.specs.declared.delays.Delays.{Delays}
 use Rattle.grid_model.specs.Boxes.{GridBox}
 use Rattle.grid_model.specs.Hulls.{joined_box}
+use Rattle.epoch_rows.proofs.CameLemmas.{whole_accepted, whole_admits, whole_covers}
+use Rattle.epoch_rows.proofs.HullLemmas.{hull_told}
+use Rattle.epoch_rows.specs.EpochsLeft as left
+use Rattle.epoch_rows.specs.EpochsLeft.{Last, EpochsLeft, GivesNext, lost_of, source_of}
 use Rattle.epoch_selection.specs.declared.selection.Selection.{Selection}
 use Rattle.input_files.specs.declared.notice.Notice.TheVariants as notice
 use Rattle.input_files.specs.declared.status.Status.{Status}
 use Rattle.input_files.specs.declared.status.Status.TheVariants as status
 use Rattle.log_writer.proofs.KnownRows.{broke_on}
+use Rattle.log_writer.proofs.LogLemmas.{same_few}
 use Rattle.log_writer.proofs.TextLemmas.{pieces_report, pieces_text}
 use Rattle.log_writer.proofs.WritingLemmas.{log_bytes-append, report_bytes-append}
 use Rattle.log_writer.specs.Breaks.{BrokeOff}
 use Rattle.log_writer.specs.Kept.{hull_kept, hull_of_last}
-use Rattle.log_writer.specs.Pavings.{BodyExtends, HasRun}
+use Rattle.log_writer.specs.Pavings.{HasRun}
 use Rattle.log_writer.specs.Pieces.{Piece, log_bytes, log_pieces, pieces_with, report_bytes, version_of}
 use Rattle.log_writer.specs.Sizes.{HasRoom}
 use Rattle.log_writer.specs.Sources.{Source, Came}
@@ -26,18 +32,18 @@ use Rattle.moving_tube.specs.Hulls.{hull_behind, hull_of}
 use Rattle.outer_io.specs.Causes.{Rose}
 use Rattle.outer_io.specs.Taken.{SinkState, SinkTold, TakenBy, taking}
 use Rattle.paving_log.specs.CoverBoxes.{cover_of}
-use Rattle.sat_model.specs.Logs.{Body, Block, LogValue, is_few}
+use Rattle.paving_log_check.specs.Admissible.{Admits}
+use Rattle.sat_model.specs.Cover.{kept_boxes}
+use Rattle.sat_model.specs.Logs.{Block, LogValue, is_few}
 use Rattle.sat_model.specs.declared.rules.Rules.{Rules}
-use Rattle.sat_rows.specs.Laws.{both_sound}
 use Rattle.sat_rows.specs.Meanings.{Meaning}
-use Rattle.tube_rows.proofs.HullLemmas.{hull_told}
-use Rattle.tube_rows.specs.TubeLeft as left
-use Rattle.tube_rows.proofs.CameLemmas.{came_clear, whole_admits, whole_clear, whole_covers, whole_found}
-use Rattle.tube_rows.specs.TubeLeft.{Last, TubeLeft, left_in, lost_of, of_tube, source_of}
+use Rattle.tube_searches.proofs.FoundLemmas.{found_by}
+use Rattle.tube_searches.specs.Tubes.{tube_searches}
 use Rattle.input_files.specs.declared.inputs.Inputs.{Inputs}
-use Rattle.cover_run.specs.Solving.{epochs_of, meaning_of}
+use Rattle.cover_run.proofs.SolvingLemmas.{files_delays, files_sound}
+use Rattle.cover_run.specs.Solving.{epoch_source, epochs_of, meaning_of}
 use Rattle.cover_run.specs.Telling.{Sinks, sinks}
-use Rattle.cover_run.specs.Tracking.{IsTrack, IsTrackText, IsTubeOf, TellsLost, lost_behind, lost_in, lost_line, lost_pieces, lost_text, lost_with, tube_source}
+use Rattle.cover_run.specs.Tracking.{IsTrack, IsTrackText, IsTubeOf, TellsLost, lost_behind, lost_in, lost_line, lost_pieces, lost_text, lost_with, moving, tube_of}
 use Rattle.cover_run.specs.Worlds.{World, Says, world}
 use Rattle.cover_run.specs.Writing.{Answer, SaysEnd, Writes, WritesLog, status_of_writing}
 
@@ -58,34 +64,27 @@ lost_is true parts index = refl
 lost_is false [] index = refl
 lost_is false (part ∷ parts) index = let (h, is) = some_hull part parts in rw is refl
 
-same_few : (Runs : Block → Body → Type 0) (block : Block) (given body : Option Body)
-    → BodyExtends Runs block given body → is_none given ≡ is_none body
-same_few Runs block None None is = refl
-same_few Runs block None (Some body) is = absurd is
-same_few Runs block (Some given) None is = absurd is
-same_few Runs block (Some given) (Some body) is = refl
-
 module _ (m : Meaning) (q : ℕ) (renews : Bool) (rules : Rules) where
-  lost_here : (old : TubeLeft) (hull : Option GridBox) (given block : Block) (next : TubeLeft)
-      → of_tube m q old hull (Some given) next
+  lost_here : (old : EpochsLeft) (hull : Option GridBox) (given block : Block) (next : EpochsLeft)
+      → GivesNext m q old hull given next
       → is_few given ≡ is_few block → block.index ≡ given.index
       → told_of (lost_of next.last (hull_kept block.body)) ≡ lost_in block
   lost_here old hull given block next gave few index =
       let parts = cover_of block.body in
       ap (λ (l : Option Last). told_of (lost_of l (hull_kept block.body))) gave.last
-      ∙ ap (λ (h : Option GridBox). told_of (left.lost_with given.index (is_few given) h)) (hull_told block.body)
-      ∙ lost_is (is_few given) parts given.index
-      ∙ ap₂ (λ (f : Bool) (n : ℕ). lost_with f parts n) few (sym index)
+      ∙ ap (λ (h : Option GridBox). told_of (left.lost_with gave.epoch.index (is_few given) h)) (hull_told block.body)
+      ∙ lost_is (is_few given) parts gave.epoch.index
+      ∙ ap₂ (λ (f : Bool) (n : ℕ). lost_with f parts n) few (sym (index ∙ gave.grown.index))
 
-  came_lost : (old : TubeLeft) (hull : Option GridBox) (blocks : List Block) (behind : TubeLeft)
+  came_lost : (old : EpochsLeft) (hull : Option GridBox) (blocks : List Block) (behind : EpochsLeft)
       → Came (source_of m q renews) rules old hull blocks behind
       → told_of (lost_of behind.last (hull_of_last hull blocks)) ≡ lost_behind (told_of (lost_of old.last hull)) blocks
-  came_lost old hull [] behind came = ap (λ (l : TubeLeft). told_of (lost_of l.last hull)) (sym came)
+  came_lost old hull [] behind came = ap (λ (l : EpochsLeft). told_of (lost_of l.last hull)) (sym came)
   came_lost old hull (block ∷ blocks) behind (given, next, gave, paves, came) =
       came_lost next (hull_kept block.body) blocks behind came
-      ∙ ap (λ (line : List ℕ). lost_behind line blocks) (lost_here old hull given block next gave (same_few (HasRun ((source_of m q renews).maker next) rules) block given.body block.body paves.body) paves.index)
+      ∙ ap (λ (line : List ℕ). lost_behind line blocks) (lost_here old hull given block next gave (sym (same_few (HasRun ((source_of m q renews).maker next) rules) block given.body block.body paves.body)) paves.index)
 
-  pub whole_lost : (first last : TubeLeft) (limit : ℕ) (bytes said : List ℕ) → first.last ≡ None
+  pub whole_lost : (first last : EpochsLeft) (limit : ℕ) (bytes said : List ℕ) → first.last ≡ None
       → (w : IsWhole (source_of m q renews) rules first last limit bytes said)
       → told_of last.lost ≡ lost_text w.log.blocks
   whole_lost first last limit bytes said none w =
@@ -160,7 +159,7 @@ pub taken_both : (a b c : SinkState) (x y : List ℕ) → TakenBy a b x → Take
     → TakenBy a c (x ++ y)
 taken_both a b c x y first second = second ∙ ap (option_map (taking y)) first ∙ taking_both x y a.told
 
-module _ (m : Meaning) (q : ℕ) (renews : Bool) (i : Inputs) (first last : TubeLeft) (none : first.last ≡ None) (limit most : ℕ) (name : List ℕ) (before mid : World) (was : Trust) where
+module _ (m : Meaning) (q : ℕ) (renews : Bool) (i : Inputs) (first last : EpochsLeft) (none : first.last ≡ None) (limit most : ℕ) (name : List ℕ) (before mid : World) (was : Trust) where
   abbrev OfTube : Answer → (bytes said : List ℕ) → Type 0
   OfTube = IsText (source_of m q renews) i.settings.rules first last limit
 
@@ -289,32 +288,21 @@ module _ (m : Meaning) (q : ℕ) (renews : Bool) (i : Inputs) (first last : Tube
     told_lost t is (inl created) told = let e : t ≡ status.WriteFault = created.status in cc
     told_lost t is (inr wrote) told = inr (by_answer t wrote wrote.answer is wrote.status wrote.text wrote.ends told)
 
--- ---- a source, rules and a key that are known
-
-pub text_known : (m n : Meaning) (given rules : Rules) (asked renews : Bool) (first here last : TubeLeft) (limit : ℕ) (answer : Answer) (bytes said : List ℕ)
-    → n ≡ m → given ≡ rules → asked ≡ renews → first ≡ here
-    → IsText (source_of n given.outliers asked) rules first last limit answer bytes said
-    → IsText (source_of m rules.outliers renews) rules here last limit answer bytes said
-text_known m n given rules asked renews first here last limit answer bytes said same are is begins text =
-    subst (λ (l : TubeLeft). IsText (source_of m rules.outliers renews) rules l last limit answer bytes said) begins
-    (subst (λ (b : Bool). IsText (source_of m rules.outliers b) rules first last limit answer bytes said) is
-    (subst (λ (r : Rules). IsText (source_of m r.outliers asked) rules first last limit answer bytes said) are
-    (subst (λ (k : Meaning). IsText (source_of k given.outliers asked) rules first last limit answer bytes said) same text)))
-
 -- ---- the log against the files
 
 -- its text is that of a log that all own lines admit, that covers what fits, and that leaves nothing
 -- clear; and a receiver is found by it
-pub track_of : (chosen : Selection) (i : Inputs) (search : GridBox) (speed : ℕ) (last : TubeLeft) (limit : ℕ) (answer : Answer) (bytes said : List ℕ)
+pub track_of : (chosen : Selection) (i : Inputs) (search : GridBox) (speed : ℕ) (last : EpochsLeft) (limit : ℕ) (answer : Answer) (bytes said : List ℕ)
     → IsTubeOf i search speed
     → AllDistinctIf i.settings.renew (epochs_of chosen i)
-    → IsTrackText (tube_source i) i (left_in search speed (epochs_of chosen i)) last limit answer bytes said
+    → IsTrackText (epoch_source i) i (moving chosen i search speed) last limit answer bytes said
     → IsTrack chosen i limit answer bytes said
 track_of chosen i search speed last limit (Ok done) bytes said is_tube distinct track =
     let m = meaning_of i in
-    let sound = both_sound i.nav i.settings in
+    let sound = files_sound i in
+    let renews = i.settings.renew in
     let rules = i.settings.rules in
-    let here = left_in search speed (epochs_of chosen i) in
+    let here = moving chosen i search speed in
     let w = track.whole in
     record {
       search = search;
@@ -322,18 +310,20 @@ track_of chosen i search speed last limit (Ok done) bytes said is_tube distinct 
       is_tube = is_tube;
       last = last;
       track = track;
-      admits = whole_admits m sound i.settings.renew rules here last refl limit bytes track.report w;
-      cover = whole_covers m sound i.settings.renew rules here last refl limit bytes track.report w;
-      nothing_clear = whole_clear m sound i.settings.renew rules here last refl limit bytes track.report w distinct;
-      found = whole_found m sound i.settings.renew rules here last refl limit bytes track.report w;
+      admits = λ owns are. subst (λ (delays : Delays).
+          Admits delays (tube_searches (tube_of chosen i search speed) w.log.blocks) owns rules w.log)
+          (files_delays i) (whole_admits m sound renews rules here last refl limit bytes track.report w owns are);
+      cover = whole_covers m sound renews rules here last refl limit bytes track.report w;
+      nothing_clear = whole_clear m sound renews rules here refl distinct limit bytes track.report last w;
+      found = λ path goes fits. found_by m (tube_of chosen i search speed) rules w.log (kept_boxes w.log) path refl
+          (whole_accepted m sound renews rules here last refl limit bytes track.report w) goes fits;
     }
-track_of chosen i search speed last limit (Err fault) bytes said is_tube distinct begun =
-    let here = left_in search speed (epochs_of chosen i) in
-    record {
-      search = search;
-      speed = speed;
-      is_tube = is_tube;
-      last = last;
-      begun = begun;
-      nothing_clear = came_clear (meaning_of i) i.settings.renew i.settings.rules (both_sound i.nav i.settings) here None begun.blocks begun.behind begun.hand tt distinct begun.came begun.in_hand;
-    }
+track_of chosen i search speed last limit (Err fault) bytes said is_tube distinct begun = record {
+  search = search;
+  speed = speed;
+  is_tube = is_tube;
+  last = last;
+  begun = begun;
+  nothing_clear = came_clear (meaning_of i) (files_sound i) i.settings.renew i.settings.rules (moving chosen i search speed) None begun.blocks begun.behind begun.hand
+      tt distinct begun.came begun.in_hand;
+}

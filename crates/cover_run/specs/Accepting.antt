@@ -1,6 +1,6 @@
 -- A run of `check` behind one of `solve`, on the same files and epochs; and one of `retrack` behind
 -- one of `track`.
-use Rattle.std.specs.Prelude.{◌≡◌, ◌≢◌, Some}
+use Rattle.std.specs.Prelude.{◌≡◌, ◌≢◌, Some, IfSome}
 use Rattle.command_words.specs.Commands as words
 use Rattle.input_files.specs.declared.limits.Limits.{Limits}
 use Rattle.input_files.specs.declared.status.Status.{Status}
@@ -15,6 +15,7 @@ pub record AreApart (names : words.Files) : Type 0 where
   pub obs : names.obs ≢ names.log
   pub nav : names.nav ≢ names.log
   pub settings : names.settings ≢ names.log
+  pub station : IfSome names.station (λ station. station ≢ names.log)
 
 -- the first did its job to the end where the files were told, and the second found the files as
 -- they were left, and ended so

@@ -1,8 +1,8 @@
 -- What `check` reads, and what it says of a log.
-use Rattle.std.specs.Prelude.{◌≡◌, ℕ, Bool, true, false, List, [], ◌∷◌, Result, Ok}
+use Rattle.std.specs.Prelude.{◌≡◌, ℕ, Bool, true, false, List, [], ◌∷◌, ◌++◌, Result, Ok}
 use Rattle.command_words.specs.Commands.{Files}
 use Rattle.epoch_selection.specs.declared.selection.Selection.{Selection}
-use Rattle.input_files.specs.Inputs.{InputsValue, ReadsFor, AreEnough, inputs_value}
+use Rattle.input_files.specs.Inputs.{InputsValue, ReadsFor, AreEnough, input_files, inputs_value}
 use Rattle.input_files.specs.Logs.{log_text}
 use Rattle.input_files.specs.Reading.{Reading, Named, NamedSlots, Then, Returns}
 use Rattle.input_files.specs.declared.inputs.Inputs.{Inputs}
@@ -32,9 +32,7 @@ checked_value c = record { inputs = inputs_value c.inputs; log = log_value c.log
 
 -- the files that are read, in their order
 abbrev pub checked_files : Files → NamedSlots
-checked_files names =
-    (slot.Settings, names.settings) ∷ (slot.Nav, names.nav) ∷ (slot.Obs, names.obs)
-    ∷ (slot.Log, names.log) ∷ []
+checked_files names = input_files names ++ (slot.Log, names.log) ∷ []
 
 abbrev pub ReadsLog : Limits → (log : List ℕ) → InputsValue → Reading CheckedValue
 ReadsLog limits log i =

@@ -1,9 +1,9 @@
 -- What `guard` reads, and what it tells of zones and directions.
-use Rattle.std.specs.Prelude.{◌≡◌, ℕ, Bool, true, false, List, [], ◌∷◌}
+use Rattle.std.specs.Prelude.{◌≡◌, ℕ, Bool, true, false, List, [], ◌∷◌, ◌++◌}
 use Rattle.command_words.specs.Commands.{Files}
 use Rattle.epoch_selection.specs.Searches.{Search, searches_in}
 use Rattle.epoch_selection.specs.declared.selection.Selection.{Selection}
-use Rattle.input_files.specs.Inputs.{InputsValue, ReadsFor}
+use Rattle.input_files.specs.Inputs.{InputsValue, ReadsFor, input_files}
 use Rattle.input_files.specs.Logs.{log_text}
 use Rattle.input_files.specs.Reading.{Reading, Named, NamedSlots, Then, Returns}
 use Rattle.input_files.specs.Zones.{ZonesValue, zones_text, zones_value}
@@ -39,8 +39,7 @@ guarded_value g = record { checked = checked_value g.checked; zones = zones_valu
 -- the files that are read, in their order
 abbrev pub guarded_files : Files → (zones : List ℕ) → NamedSlots
 guarded_files names zones =
-    (slot.Settings, names.settings) ∷ (slot.Nav, names.nav) ∷ (slot.Obs, names.obs)
-    ∷ (slot.Rows, zones) ∷ (slot.Log, names.log) ∷ []
+    input_files names ++ (slot.Rows, zones) ∷ (slot.Log, names.log) ∷ []
 
 abbrev pub guarded_by : InputsValue → ZonesValue → LogValue → GuardedValue
 guarded_by i z l = record { checked = record { inputs = i; log = l }; zones = z }

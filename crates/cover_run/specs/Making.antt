@@ -80,6 +80,7 @@ pub record AreMade (seed count : ℕ) (i : Inputs) : Type 0 where
   pub is_made : IsMade seed count made
   pub settings : IsSettings made.settings.items (value_of_settings i.settings)
   pub nav : IsNavFile made.nav.items (records_of i.nav)
+  pub alone : i.station ≡ None
   pub obs : IsObsFile i.settings.signal (wants_position i.settings.centre) made.obs.items
       (observations_of i.obs)
 

@@ -1,5 +1,5 @@
 -- What `solve` writes.
-use Rattle.std.specs.Prelude.{ℕ, List, [], length, Ok, Err}
+use Rattle.std.specs.Prelude.{ℕ, List, [], length, Ok, Err, option_map}
 use Rattle.sharpness_laws.specs.Left.{BlocksLeaveNothingClear, LogLeavesNothingClear}
 use Rattle.command_words.specs.Commands.{Files}
 use Rattle.epoch_rows.specs.EpochsLeft.{EpochsLeft, left_in, source_of}
@@ -10,6 +10,7 @@ use Rattle.error_bounds.specs.Reading.{centre_with, IsRoot}
 use Rattle.input_files.specs.Inputs.{input_files}
 use Rattle.input_files.specs.Reading.{NamedSlots}
 use Rattle.input_files.specs.declared.inputs.Inputs.{Inputs}
+use Rattle.input_files.specs.declared.station_file.StationFile.{StationFile}
 use Rattle.input_files.specs.declared.status.Status.{Status}
 use Rattle.log_writer.specs.Sizes.{most_bytes}
 use Rattle.log_writer.specs.Sources.{Source}
@@ -22,7 +23,8 @@ use Rattle.paving_log_check.specs.OwnLines.{OwnLines, AreOwn}
 use Rattle.rinex_obs.specs.declared.obs.ObsEpoch.{ObsEpoch}
 use Rattle.grid_model.specs.Boxes.{GridBox}
 use Rattle.sat_rows.specs.Meanings.{Meaning}
-use Rattle.sat_rows.specs.Sources.{both_meaning}
+use Rattle.station_epochs.specs.Stations.{Station}
+use Rattle.station_rows.specs.Stations.{rows_meaning}
 use Rattle.cover_run.specs.Chosen.{chosen_in}
 use Rattle.cover_run.specs.Worlds.{World}
 use Rattle.cover_run.specs.Writing.{Answer, Writes}
@@ -31,10 +33,14 @@ use Rattle.cover_run.specs.Writing.{Answer, Writes}
 abbrev pub epochs_of : Selection → Inputs → List ObsEpoch
 epochs_of chosen i = selected chosen i.obs.epochs.items
 
+-- a station whose file was read
+abbrev pub station_in : StationFile → Station
+station_in s = record { place = s.place; age = s.age; epochs = s.obs.epochs.items }
+
 module _ (i : Inputs) where
-  -- what the files say of satellites
+  -- what the files say of satellites: of a receiver alone, or of the difference to a station
   abbrev pub meaning_of : Meaning
-  meaning_of = both_meaning i.nav i.settings
+  meaning_of = rows_meaning i.nav i.settings (option_map station_in i.station)
 
   -- the epochs give their blocks in turn, and renew their rows where the settings say so
   abbrev pub epoch_source : Source EpochsLeft
@@ -43,6 +49,11 @@ module _ (i : Inputs) where
   -- the search box of the settings
   abbrev pub IsRootOf : GridBox → Type 0
   IsRootOf root = IsRoot (centre_with i.obs.position i.settings.centre) i.settings.half root
+
+-- before the first of the chosen epochs, all of which are searched in this box
+abbrev pub standing : Selection → Inputs → GridBox → EpochsLeft
+standing chosen i root =
+    left_in (epochs_of chosen i) (λ blocks. searches_in root (epochs_of chosen i))
 
 module _ (chosen : Selection) (i : Inputs) where
   -- The text of one log and its report, within the limit: each epoch's block has own lines, whose
@@ -56,8 +67,8 @@ module _ (chosen : Selection) (i : Inputs) where
     pub root : GridBox
     pub is_root : IsRootOf i root
     pub last : EpochsLeft
-    pub whole : IsWhole (epoch_source i) i.settings.rules (left_in root (epochs_of chosen i)) last
-        limit bytes said
+    pub whole : IsWhole (epoch_source i) i.settings.rules (standing chosen i root) last limit bytes
+        said
     pub admits : (owns : List OwnLines)
         → AreOwn (meaning_of i) (searches_in root (epochs_of chosen i)) whole.log.blocks owns
         → Admits i.settings.delays (searches_in root (epochs_of chosen i)) owns i.settings.rules
@@ -72,7 +83,7 @@ module _ (chosen : Selection) (i : Inputs) where
     pub root : GridBox
     pub is_root : IsRootOf i root
     pub begun : IsBegun fault (epoch_source i) i.settings.rules
-        (left_in root (epochs_of chosen i)) limit bytes said
+        (standing chosen i root) limit bytes said
     pub nothing_clear : BlocksLeaveNothingClear (meaning_of i) i.settings.renew i.settings.rules
         (searches_in root (epochs_of chosen i)) begun.blocks begun.hand
 

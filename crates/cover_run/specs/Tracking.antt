@@ -4,6 +4,7 @@ use Rattle.std.specs.Prelude.{◌≡◌, ℕ, ◌++◌, Bool, true, false, List,
 use Rattle.std.specs.Prelude.{Some, Ok, Err, codes, decimal}
 use Rattle.sharpness_laws.specs.Left.{BlocksLeaveNothingClear, LogLeavesNothingClear}
 use Rattle.command_words.specs.Commands.{Files}
+use Rattle.epoch_rows.specs.EpochsLeft.{EpochsLeft, left_in}
 use Rattle.epoch_selection.specs.Searches.{Search}
 use Rattle.epoch_selection.specs.declared.selection.Selection.{Selection}
 use Rattle.grid_model.specs.Boxes.{GridBox}
@@ -28,10 +29,9 @@ use Rattle.paving_log_check.specs.FileCover.{FileCover}
 use Rattle.paving_log_check.specs.OwnLines.{OwnLines, AreOwn}
 use Rattle.sat_model.specs.Logs.{Block, LogValue, is_few}
 use Rattle.tube_searches.specs.Found.{IsPath, PathFits, IsFoundIn}
-use Rattle.tube_rows.specs.TubeLeft.{TubeLeft, left_in, source_of}
 use Rattle.tube_searches.specs.Tubes.{TubeValue, tube_searches}
 use Rattle.cover_run.specs.Chosen.{chosen_in}
-use Rattle.cover_run.specs.Solving.{IsRootOf, epochs_of, meaning_of}
+use Rattle.cover_run.specs.Solving.{IsRootOf, epoch_source, epochs_of, meaning_of}
 use Rattle.cover_run.specs.Telling.{Sinks, TellsLine}
 use Rattle.cover_run.specs.Worlds.{World}
 use Rattle.cover_run.specs.Writing.{Answer, Writes}
@@ -73,7 +73,7 @@ TellsLost (Some index) before after reliable s =
 
 -- A log and its report, to which the line of a receiver that is lost belongs; or what a fault left
 -- of them. The source stood first here, and then there.
-module _ (source : Source TubeLeft) (i : Inputs) (first last : TubeLeft) where
+module _ (source : Source EpochsLeft) (i : Inputs) (first last : EpochsLeft) where
   pub record IsWholeTrack (limit : ℕ) (bytes said : List ℕ) : Type 0 where
     pub report : List ℕ
     pub whole : IsWhole source i.settings.rules first last limit bytes report
@@ -81,7 +81,7 @@ module _ (source : Source TubeLeft) (i : Inputs) (first last : TubeLeft) where
 
   pub record IsBegunTrack (fault : WriteFault) (limit : ℕ) (bytes said : List ℕ) : Type 0 where
     pub blocks : List Block
-    pub behind : TubeLeft
+    pub behind : EpochsLeft
     pub came : Came source i.settings.rules first None blocks behind
     pub hand : Option Block
     pub in_hand : IsInHand source i.settings.rules behind (hull_of_last None blocks) hand
@@ -97,11 +97,6 @@ module _ (source : Source TubeLeft) (i : Inputs) (first last : TubeLeft) where
 
 -- ---- the track of the files
 
--- the epochs give their blocks in turn, each over the root that the one before leaves, and renew
--- their rows where the settings say so
-abbrev pub tube_source : Inputs → Source TubeLeft
-tube_source i = source_of (meaning_of i) i.settings.rules.outliers i.settings.renew
-
 -- the search box of the settings, and the greatest speed that they declare
 pub record IsTubeOf (i : Inputs) (root : GridBox) (fastest : ℕ) : Type 0 where
   pub search : IsRootOf i root
@@ -111,6 +106,11 @@ pub record IsTubeOf (i : Inputs) (root : GridBox) (fastest : ℕ) : Type 0 where
 abbrev pub tube_of : Selection → Inputs → GridBox → ℕ → TubeValue
 tube_of chosen i search speed =
     record { epochs = epochs_of chosen i; search = search; speed = speed; before = None }
+
+-- before the first of them; each later one is searched in the root that the one before leaves
+abbrev pub moving : Selection → Inputs → GridBox → ℕ → EpochsLeft
+moving chosen i search speed =
+    left_in (epochs_of chosen i) (λ blocks. tube_searches (tube_of chosen i search speed) blocks)
 
 module _ (chosen : Selection) (i : Inputs) where
   -- By these searches of a log each trajectory of the declared speed over the first epochs, however
@@ -129,9 +129,8 @@ module _ (chosen : Selection) (i : Inputs) where
     pub search : GridBox
     pub speed : ℕ
     pub is_tube : IsTubeOf i search speed
-    pub last : TubeLeft
-    pub track : IsWholeTrack (tube_source i) i (left_in search speed (epochs_of chosen i)) last
-        limit bytes said
+    pub last : EpochsLeft
+    pub track : IsWholeTrack (epoch_source i) i (moving chosen i search speed) last limit bytes said
     pub admits : (owns : List OwnLines)
         → AreOwn (meaning_of i)
         (tube_searches (tube_of chosen i search speed) track.whole.log.blocks)
@@ -152,9 +151,9 @@ module _ (chosen : Selection) (i : Inputs) where
     pub search : GridBox
     pub speed : ℕ
     pub is_tube : IsTubeOf i search speed
-    pub last : TubeLeft
-    pub begun : IsBegunTrack (tube_source i) i (left_in search speed (epochs_of chosen i)) last
-        fault limit bytes said
+    pub last : EpochsLeft
+    pub begun : IsBegunTrack (epoch_source i) i (moving chosen i search speed) last fault limit
+        bytes said
     pub nothing_clear : BlocksLeaveNothingClear (meaning_of i) i.settings.renew i.settings.rules
         (tube_searches (tube_of chosen i search speed) begun.blocks) begun.blocks begun.hand
 

@@ -19,7 +19,7 @@ pub struct Checked {
     pub log: Log,
 }
 
-/// Reads the three files of a receiver, which may be one that moves, and then the log.
+/// Reads the files of a receiver, which may be one that moves, and then the log.
 pub fn read_checked<H: Shelf>(
     alloc: Global,
     limits: &Limits,

@@ -13,11 +13,11 @@ ghost use Rattle.paving_log_check.specs.Answers.{IfNo, IfYes};
 use crate::Verdict;
 use crate::checked::{Checked, read_checked};
 use crate::chosen::chosen_in;
+use crate::file_rows::rows_of;
 use crate::telling::say;
 use crate::verdicts::tell_verdict;
 use command_words::Files;
 use epoch_selection::Selection;
-use galileo_rows::BothRows;
 use grid_model::NoMemory;
 use input_files::{Limits, Status};
 use outer_io::{Shelf, Sink};
@@ -34,10 +34,7 @@ pub fn check_verdict(alloc: Global, found: &Checked, chosen: Selection) -> Resul
 {
     let inputs = &found.inputs;
     let settings = &inputs.settings;
-    let source = BothRows {
-        nav: &inputs.nav,
-        settings,
-    };
+    let source = rows_of(inputs);
     check_by(alloc, &source, &inputs.obs, settings, chosen, &found.log)
 }
 

@@ -21,8 +21,7 @@ pub struct Guarded {
     pub zones: Watches,
 }
 
-/// Reads the three files of a receiver, which may be one that moves, then the zones and then the
-/// log.
+/// Reads the files of a receiver, which may be one that moves, then the zones and then the log.
 pub fn read_guarded<H: Shelf>(
     alloc: Global,
     limits: &Limits,

@@ -4,7 +4,8 @@
 //! `check` with the same words checks the log against the files. `track` and `retrack` do so for a
 //! receiver that moves: each epoch is searched where the one before allows it to have come. `guard
 //! OBS NAV SETTINGS ZONES LOG` checks the log so and tells of each epoch whether what fits lies
-//! outside or inside zones. `pave ROWS LOG` reads satellite rows, paves their epochs and writes the
+//! outside or inside zones. Each of these five takes `--station FILE`, by which rows are those of
+//! single differences. `pave ROWS LOG` reads satellite rows, paves their epochs and writes the
 //! log, and `judge LOG` judges a log with its rows taken as given.
 #![tactic(auto)]
 
@@ -13,6 +14,7 @@ mod check_texts;
 mod checked;
 mod checking;
 mod chosen;
+mod file_rows;
 mod guarded;
 mod guarding;
 mod judging;

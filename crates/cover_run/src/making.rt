@@ -84,7 +84,12 @@ fn made_inputs(alloc: Global, seed: u32, epochs: u32) -> Result<Inputs, Notice>
         },
     };
     let obs = read_faultless(alloc, made.obs, &text)?;
-    Ok(Inputs { settings, nav, obs })
+    Ok(Inputs {
+        settings,
+        nav,
+        station: None,
+        obs,
+    })
 }
 
 /// A shelf in memory for a log alone, of so many bytes.

@@ -16,17 +16,17 @@ ghost use Rattle.paving_log_check.specs.Answers.{IfNo, IfYes};
 use crate::Verdict;
 use crate::checked::{Checked, read_checked};
 use crate::chosen::chosen_in;
+use crate::file_rows::rows_of;
 use crate::telling::say;
-use crate::tracking::declared_speed;
+use crate::tracking::declared_tube;
 use crate::verdicts::tell_verdict;
 use command_words::Files;
-use epoch_selection::{Searches, Selection};
-use galileo_rows::BothRows;
+use epoch_selection::Selection;
 use grid_model::NoMemory;
 use input_files::{Limits, Status};
 use outer_io::{Shelf, Sink};
 use std::alloc::Global;
-use tube_searches::{Tube, check_tube};
+use tube_searches::check_tube;
 
 /// The verdict on the log against these epochs of the files, each over the root that the one before
 /// leaves.
@@ -40,19 +40,8 @@ pub fn track_verdict(alloc: Global, found: &Checked, chosen: Selection) -> Resul
 {
     let inputs = &found.inputs;
     let settings = &inputs.settings;
-    let source = BothRows {
-        nav: &inputs.nav,
-        settings,
-    };
-    let tube = Tube {
-        searches: Searches {
-            left: &inputs.obs.epochs,
-            selection: chosen,
-            root: settings.root(inputs.obs.position),
-        },
-        speed: declared_speed(inputs),
-        before: None,
-    };
+    let source = rows_of(inputs);
+    let tube = declared_tube(inputs, chosen);
     check_tube(alloc, &source, &tube, &settings.rules, &found.log)
 }
 

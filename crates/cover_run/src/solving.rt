@@ -8,12 +8,12 @@ ghost use Rattle.input_files.specs.Inputs.{AreEnough};
 ghost use Rattle.log_writer.specs.Writing.{trust_of};
 
 use crate::chosen::chosen_in;
+use crate::file_rows::rows_of;
 use crate::telling::say;
 use crate::writing::write_named;
 use command_words::Files;
 use epoch_rows::ObsBlocks;
-use epoch_selection::Selection;
-use galileo_rows::BothRows;
+use epoch_selection::{Searches, Selection};
 use input_files::{Inputs, Limits, Status, read_inputs};
 use outer_io::{Shelf, Sink};
 use std::alloc::Global;
@@ -37,20 +37,13 @@ pub fn write_solution<H: Shelf, O: Sink, E: Sink>(
         (trust_of (H.reliable shelf.new) (O.reliable out.new)) result }
 {
     let settings = &inputs.settings;
-    let root = settings.root(inputs.obs.position);
-    let source = BothRows {
-        nav: &inputs.nav,
-        settings,
+    let source = rows_of(inputs);
+    let searches = Searches {
+        left: &inputs.obs.epochs,
+        selection: chosen,
+        root: settings.root(inputs.obs.position),
     };
-    let mut blocks = ObsBlocks::of_file(
-        alloc,
-        &source,
-        &inputs.obs,
-        chosen,
-        &root,
-        &settings.rules,
-        settings.renew,
-    );
+    let mut blocks = ObsBlocks::of_walk(alloc, &source, searches, &settings.rules, settings.renew);
     write_named(
         alloc,
         limits,

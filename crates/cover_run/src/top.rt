@@ -28,7 +28,8 @@ use std::alloc::Global;
 /// `out`. `solve OBS NAV SETTINGS LOG` reads the files of a receiver, paves their epochs, writes
 /// the log and prints its report on `out`. `check` with the same words reads them and the log, and
 /// prints the verdict of the files on it. Both take `--from N` and `--to N`, the first and the last
-/// epoch that is taken. `track` and `retrack` with these words are the same of a receiver that
+/// epoch that is taken, and `--station FILE`, the observation file of a station, with which rows are
+/// those of single differences. `track` and `retrack` with these words are the same of a receiver that
 /// moves: each epoch is searched in the root that the one before leaves, and behind one in which
 /// the receiver is lost nothing more is. `guard OBS NAV SETTINGS ZONES LOG` checks the log as
 /// `check` does, or with `--track` as `retrack`. Where the verdict is no it prints that alone, and

@@ -3,26 +3,29 @@
 ghost use Rattle.std.specs.Prelude.{◌≡◌, ◌≤◌, Some};
 ghost use Rattle.command_words.specs.Seen.{files_asked};
 ghost use Rattle.cover_run.specs.Runs.{RunOf, tracking};
-ghost use Rattle.cover_run.specs.Tracking.{TellsLost, Track, lost_line};
+ghost use Rattle.cover_run.specs.Tracking.{IsTubeOf, TellsLost, Track, lost_line, tube_of};
 ghost use Rattle.cover_run.specs.Telling.{sinks};
 ghost use Rattle.cover_run.specs.Worlds.{world};
+ghost use Rattle.grid_model.specs.Boxes.{grid_box};
 ghost use Rattle.input_files.specs.Inputs.{AreEnough};
 ghost use Rattle.input_files.specs.Motion.{HasSpeed, speed_of};
 ghost use Rattle.log_writer.specs.Writing.{trust_of};
 ghost use Rattle.moving_tube.specs.Reach.{fastest};
+ghost use Rattle.tube_searches.specs.Tubes.{tube_value};
 
 use crate::chosen::chosen_in;
+use crate::file_rows::rows_of;
 use crate::telling::{say, tell};
 use crate::texts::Line;
 use crate::writing::write_named;
 use command_words::Files;
-use epoch_selection::Selection;
-use galileo_rows::BothRows;
+use epoch_rows::ObsBlocks;
+use epoch_selection::{Searches, Selection};
 use input_files::{Inputs, Limits, Status, read_inputs, speed_of};
 use itoa::Buffer;
 use outer_io::{Shelf, Sink};
 use std::alloc::Global;
-use tube_rows::TubeBlocks;
+use tube_searches::Tube;
 
 /// `lost INDEX`: the receiver wasn't in any box of this epoch.
 fn lost_line(index: u32) -> Line
@@ -37,7 +40,7 @@ fn lost_line(index: u32) -> Line
 }
 
 /// The greatest speed of the receiver, in mm/s.
-pub fn declared_speed(inputs: &Inputs) -> u32
+fn declared_speed(inputs: &Inputs) -> u32
     requires { HasSpeed (speed_of inputs.now.settings) }
     ensures speed { speed_of inputs.now.settings ≡ Some result }
     ensures fast { result ≤ fastest }
@@ -45,6 +48,26 @@ pub fn declared_speed(inputs: &Inputs) -> u32
     match speed_of(&inputs.settings) {
         Some(speed) => speed,
         None => unreachable!(),
+    }
+}
+
+/// The walk of a receiver of this speed over these epochs of the files.
+pub fn declared_tube(inputs: &Inputs, chosen: Selection) -> Tube<'_>
+    requires enough { AreEnough inputs.now }
+    requires moving { HasSpeed (speed_of inputs.now.settings) }
+    ensures declared { IsTubeOf inputs.now (grid_box result.searches.root) result.speed }
+    ensures value { tube_value result
+        ≡ tube_of chosen inputs.now (grid_box result.searches.root) result.speed }
+{
+    let settings = &inputs.settings;
+    Tube {
+        searches: Searches {
+            left: &inputs.obs.epochs,
+            selection: chosen,
+            root: settings.root(inputs.obs.position),
+        },
+        speed: declared_speed(inputs),
+        before: None,
     }
 }
 
@@ -81,22 +104,9 @@ fn write_track<H: Shelf, O: Sink, E: Sink>(
 {
     let settings = &inputs.settings;
     let rules = &settings.rules;
-    let search = settings.root(inputs.obs.position);
-    let speed = declared_speed(inputs);
-    let source = BothRows {
-        nav: &inputs.nav,
-        settings,
-    };
-    let mut blocks = TubeBlocks::of_file(
-        alloc,
-        &source,
-        &inputs.obs,
-        chosen,
-        &search,
-        speed,
-        rules,
-        settings.renew,
-    );
+    let source = rows_of(inputs);
+    let tube = declared_tube(inputs, chosen);
+    let mut blocks = ObsBlocks::of_walk(alloc, &source, tube, rules, settings.renew);
     let status = write_named(alloc, limits, log, rules, &mut blocks, shelf, out, err);
     if status == Status::Done {
         return tell_lost(blocks.lost(), out, err);

@@ -1,11 +1,10 @@
 -- What came from a source, said of another source that stands alike, where the first keeps what the
 -- second leaves out.
 use Rattle.std.proofs.Common.{◌≡◌, ℕ, Bool, true, List, [], ◌∷◌, Option, None, Some, Result, Ok, Err, refl, ap, sym, subst, ◌∙◌}
-use Rattle.epoch_rows.specs.EpochsLeft.{EpochsLeft, left_of, left_behind, GivesFirst, source_of}
-use Rattle.epoch_rows.specs.Makers.{IsMakerFor, GivesBlock, GivesNext}
+use Rattle.epoch_rows.specs.EpochsLeft.{EpochsLeft, with_hand, IsEnded, GivesNext, source_of}
+use Rattle.epoch_rows.specs.Makers.{IsMakerFor, GivesBlock, GivesAny}
 use Rattle.epoch_rows.specs.Renewed.{Hand, IsGrownFrom, maker_from, maker_of}
 use Rattle.epoch_rows.specs.declared.maker.RowMaker.{RowMaker}
-use Rattle.epoch_selection.specs.declared.searches.Searches.{Searches}
 use Rattle.gnss_model.specs.declared.delays.Delays.{Delays}
 use Rattle.log_writer.specs.Breaks.{BrokeOff}
 use Rattle.log_writer.specs.Kept.{hull_kept, hull_of_last}
@@ -103,16 +102,29 @@ maker_goes m hand renews maker same is =
 -- ---- the epochs of a file
 
 -- what is in hand doesn't count for what comes next
-any_hand : (m : Meaning) (q : ℕ) (hand : Option Hand) (s : Searches) (block : Block) (new : EpochsLeft)
-    → GivesFirst m q (left_of s) block new → GivesFirst m q (left_behind hand s) block new
-any_hand m q hand s block new g = record { epoch = g.epoch; first = g.first; grown = g.grown; same_root = g.same_root; hand = g.hand }
+any_hand : (m : Meaning) (q : ℕ) (hand : Option Hand) (left : EpochsLeft) (hull : Option GridBox) (block : Block) (new : EpochsLeft)
+    → GivesNext m q left hull block new → GivesNext m q (with_hand hand left) hull block new
+any_hand m q hand left hull block new g = record {
+  epoch = g.epoch;
+  root = g.root;
+  first = g.first;
+  box = g.box;
+  is_first = g.is_first;
+  grown = g.grown;
+  last = g.last;
+  hand = g.hand;
+}
 
--- What came from blocks that have a source of rows, rules, searches and a maker of rows came from the epochs that are left.
-module _ {B S : Type 0} (rows_in : B → S) (rules_in : B → Rules) (searches_in : B → Searches) (maker_in : B → RowMaker) (meaning : S → Meaning) where
+any_end : (hand : Option Hand) (left : EpochsLeft) (hull : Option GridBox) (new : EpochsLeft)
+    → IsEnded left hull new → IsEnded (with_hand hand left) hull new
+any_end hand left hull new e = record { over = e.over; lost = e.lost }
+
+-- What came from blocks that have a source of rows, rules, epochs that are left and a maker of rows came from these epochs.
+module _ {B S : Type 0} (rows_in : B → S) (rules_in : B → Rules) (left_in : B → EpochsLeft) (maker_in : B → RowMaker) (meaning : S → Meaning) where
   abbrev pub of_blocks : Source B
   of_blocks = record {
     gives = λ (old : B) (hull : Option GridBox) (next : Option Block) (new : B). (rows_in new ≡ rows_in old) × (rules_in new ≡ rules_in old) × ((maker_in new).renews ≡ (maker_in old).renews)
-        × GivesNext (meaning (rows_in old)) (rules_in old).outliers (maker_in old).renews (searches_in old) next (searches_in new) (maker_in new);
+        × GivesAny (meaning (rows_in old)) (rules_in old).outliers (maker_in old).renews (left_in old) hull next (left_in new) (maker_in new);
     maker = λ (b : B). maker_from (maker_in b).renews (maker_in b).delays (grid_box (maker_in b).root) (maker_in b).bases.items;
   }
 
@@ -125,38 +137,42 @@ module _ {B S : Type 0} (rows_in : B → S) (rules_in : B → Rules) (searches_i
       rows : rows_in b ≡ rows_in first
       rules : rules_in b ≡ rules_in first
       renews : (maker_in b).renews ≡ (maker_in first).renews
-      left_is : left ≡ left_behind left.hand (searches_in b)
+      left_is : left ≡ with_hand left.hand (left_in b)
 
-    given_here : (old : B) (block : Block) (new : B) → rows_in old ≡ rows_in first
-        → rules_in old ≡ rules_in first → (maker_in old).renews ≡ (maker_in first).renews
-        → GivesBlock (meaning (rows_in old)) (rules_in old).outliers (maker_in old).renews (searches_in old) block (searches_in new) (maker_in new)
-        → GivesBlock (meaning (rows_in first)) (rules_in first).outliers (maker_in first).renews (searches_in old) block (searches_in new) (maker_in new)
-    given_here old block new rows rules renews g =
-        subst (λ (s : S). GivesBlock (meaning s) (rules_in first).outliers (maker_in first).renews (searches_in old) block (searches_in new) (maker_in new)) rows
-        (subst (λ (r : Rules). GivesBlock (meaning (rows_in old)) r.outliers (maker_in first).renews (searches_in old) block (searches_in new) (maker_in new)) rules
-        (subst (λ (b : Bool). GivesBlock (meaning (rows_in old)) (rules_in old).outliers b (searches_in old) block (searches_in new) (maker_in new)) renews g))
+    given_here : (old : B) (hull : Option GridBox) (block : Block) (new : B)
+        → rows_in old ≡ rows_in first → rules_in old ≡ rules_in first
+        → (maker_in old).renews ≡ (maker_in first).renews
+        → GivesBlock (meaning (rows_in old)) (rules_in old).outliers (maker_in old).renews (left_in old) hull block (left_in new) (maker_in new)
+        → GivesBlock (meaning (rows_in first)) (rules_in first).outliers (maker_in first).renews (left_in old) hull block (left_in new) (maker_in new)
+    given_here old hull block new rows rules renews g =
+        subst (λ (s : S). GivesBlock (meaning s) (rules_in first).outliers (maker_in first).renews (left_in old) hull block (left_in new) (maker_in new)) rows
+        (subst (λ (r : Rules). GivesBlock (meaning (rows_in old)) r.outliers (maker_in first).renews (left_in old) hull block (left_in new) (maker_in new)) rules
+        (subst (λ (b : Bool). GivesBlock (meaning (rows_in old)) (rules_in old).outliers b (left_in old) hull block (left_in new) (maker_in new)) renews g))
 
     each : (old : B) (was : EpochsLeft) (hull : Option GridBox) (block : Block) (new : B)
         → Stands old was → of_blocks.gives old hull (Some block) new
         → GivesToo of_blocks Others Stands was hull block new
     each old was hull block new stands (rows, rules, renews, gave) =
-        let g = given_here old block new stands.rows stands.rules stands.renews gave in
+        let m = meaning (rows_in first) in
+        let q = (rules_in first).outliers in
+        let g = given_here old hull block new stands.rows stands.rules stands.renews gave in
         let same = renews ∙ stands.renews in
         record {
-          is = left_behind (Some g.hand) (searches_in new);
+          is = with_hand (Some g.hand) (left_in new);
           stands = record { rows = rows ∙ stands.rows; rules = rules ∙ stands.rules; renews = same; left_is = refl };
-          gave = subst (λ (l : EpochsLeft). GivesFirst (meaning (rows_in first)) (rules_in first).outliers l block (left_behind (Some g.hand) (searches_in new))) (sym stands.left_is)
-              (any_hand (meaning (rows_in first)) (rules_in first).outliers was.hand (searches_in old) block (left_behind (Some g.hand) (searches_in new)) g.first);
-          goes = maker_goes (meaning (rows_in first)) g.hand (maker_in first).renews (maker_in new) same g.is_maker;
+          gave = subst (λ (l : EpochsLeft). GivesNext m q l hull block (with_hand (Some g.hand) (left_in new))) (sym stands.left_is)
+              (any_hand m q was.hand (left_in old) hull block (with_hand (Some g.hand) (left_in new)) g.next);
+          goes = maker_goes m g.hand (maker_in first).renews (maker_in new) same g.is_maker;
         }
 
     ends : (old : B) (was : EpochsLeft) (hull : Option GridBox) (new : B) → Stands old was
-        → of_blocks.gives old hull None new → Others.gives was hull None (left_of (searches_in new))
-    ends old was hull new stands (rows, rules, renews, none) = ap (λ (l : EpochsLeft). l.epochs) stands.left_is ∙ none
+        → of_blocks.gives old hull None new → Others.gives was hull None (left_in new)
+    ends old was hull new stands (rows, rules, renews, ended) =
+        subst (λ (l : EpochsLeft). IsEnded l hull (left_in new)) (sym stands.left_is) (any_end was.hand (left_in old) hull (left_in new) ended)
 
     pub text_of_epochs : {T : Type 0} (last : B) (rules : Rules) (limit : ℕ) (r : Result T WriteFault) (bytes said : List ℕ)
         → IsText of_blocks rules first last limit r bytes said
-        → IsText (source_of (meaning (rows_in first)) (rules_in first).outliers (maker_in first).renews) rules (left_of (searches_in first)) (left_of (searches_in last)) limit r bytes said
+        → IsText (source_of (meaning (rows_in first)) (rules_in first).outliers (maker_in first).renews) rules (left_in first) (left_in last) limit r bytes said
     text_of_epochs last rules limit r bytes said text =
-        text_kept of_blocks Others Stands (λ b. left_of (searches_in b)) each ends rules first last (left_of (searches_in first)) limit r bytes said
+        text_kept of_blocks Others Stands left_in each ends rules first last (left_in first) limit r bytes said
         (record { rows = refl; rules = refl; renews = refl; left_is = refl }) refl text

@@ -6,6 +6,7 @@ pub mod BaseLemmas
 pub mod BlockLemmas
 pub mod PassLemmas
 pub mod ReadyLemmas
+pub mod HullLemmas
 pub mod NextLemmas
 pub mod AgreeLemmas
 pub mod MakerLemmas

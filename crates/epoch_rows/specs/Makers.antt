@@ -1,11 +1,9 @@
 -- Who forms the rows of a block anew.
-use Rattle.std.specs.Prelude.{◌≡◌, ℕ, Bool, true, [], Option, None, Some}
-use Rattle.epoch_selection.specs.Searches.{epochs_left}
-use Rattle.epoch_selection.specs.declared.searches.Searches.{Searches}
-use Rattle.grid_model.specs.Boxes.{grid_box}
+use Rattle.std.specs.Prelude.{◌≡◌, ℕ, Bool, true, Option, None, Some}
+use Rattle.grid_model.specs.Boxes.{GridBox, grid_box}
 use Rattle.sat_model.specs.Logs.{Block}
 use Rattle.sat_rows.specs.Meanings.{Meaning}
-use Rattle.epoch_rows.specs.EpochsLeft.{left_of, left_behind, GivesFirst}
+use Rattle.epoch_rows.specs.EpochsLeft.{EpochsLeft, with_hand, IsEnded, GivesNext}
 use Rattle.epoch_rows.specs.Renewed.{Hand, AreBasesIn}
 use Rattle.epoch_rows.specs.declared.maker.RowMaker.{RowMaker}
 
@@ -20,14 +18,14 @@ pub record IsMakerFor (m : Meaning) (hand : Hand) (maker : RowMaker) : Type 0 wh
 -- by what a source says of satellites, where so many of them may be inconsistent, and where rows
 -- are renewed or aren't
 module _ (m : Meaning) (q : ℕ) (renews : Bool) where
-  -- the block of the first epoch that is left, with the maker of its rows
-  pub record GivesBlock (old : Searches) (block : Block) (new : Searches)
-      (maker : RowMaker) : Type 0 where
+  -- the next block, with the maker of its rows
+  pub record GivesBlock (old : EpochsLeft) (hull : Option GridBox) (block : Block)
+      (new : EpochsLeft) (maker : RowMaker) : Type 0 where
     pub hand : Hand
-    pub first : GivesFirst m q (left_of old) block (left_behind (Some hand) new)
+    pub next : GivesNext m q old hull block (with_hand (Some hand) new)
     pub is_maker : renews ≡ true → IsMakerFor m hand maker
 
-  -- where one is left
-  abbrev pub GivesNext : Searches → Option Block → Searches → RowMaker → Type 0
-  GivesNext old None new maker = epochs_left old ≡ []
-  GivesNext old (Some block) new maker = GivesBlock old block new maker
+  -- where there is one
+  abbrev pub GivesAny : EpochsLeft → Option GridBox → Option Block → EpochsLeft → RowMaker → Type 0
+  GivesAny old hull None new maker = IsEnded old hull new
+  GivesAny old hull (Some block) new maker = GivesBlock old hull block new maker

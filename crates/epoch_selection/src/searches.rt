@@ -41,7 +41,9 @@ impl<'a> Searches<'a> {
 /// A receiver that stands still: the walk isn't told anything.
 impl<'a> Walk<'a> for Searches<'a> {
     ghost use Rattle.std.specs.Prelude.{None};
-    ghost use Rattle.epoch_selection.specs.Searches.{searches_left};
+    ghost use Rattle.epoch_selection.specs.Searches.{epochs_left, searches_left};
+
+    ghost epochs = { λ walk. epochs_left walk };
 
     ghost searches = { λ walk blocks. searches_left walk };
 

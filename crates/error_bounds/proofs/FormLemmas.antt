@@ -1,15 +1,20 @@
 -- The forms over values as the code holds them.
-use Rattle.std.proofs.Common.{◌≡◌, ℕ, ℤ, pos, negsuc, ◌≤ℤ◌, ◌*ℤ◌, Bool, true, List, [], ◌∷◌, length, get_or, is_some, suc, Option, Some, None, option_map, option_and_then, Result, Err, refl, sym, ap, ◌∙◌, ◌≢◌, arith}
+use Rattle.std.proofs.Common.{◌≡◌, ℕ, ◌+◌, ◌*◌, ◌≤◌, ℤ, pos, negsuc, nat_abs, ◌≤ℤ◌, ◌*ℤ◌, Bool, true, List, [], ◌∷◌, length, get_or, is_some, suc, Option, Some, None, option_map, option_and_then, Result, Err, refl, sym, ap, ◌∙◌, ◌≢◌, arith}
 use Rattle.std.proofs.lemmas.Bool.{and_parts, false≢true}
 use Rattle.std.proofs.lemmas.Int.{ints}
+use Rattle.std.proofs.lemmas.Bool.Decides.{nat_tests}
+use Rattle.grid_model.specs.Amounts.{square}
 use Rattle.grid_model.specs.Sizes.{IsWithin}
+use Rattle.grid_model.specs.Squares.{sum_of_squares}
+use Rattle.grid_model.proofs.ProductLemmas.{square_of_amount, swap4}
+use Rattle.grid_model.proofs.RootLemmas.{square-mono}
 use Rattle.toml.specs.Data.{Data}
 use Rattle.toml.specs.View.{view, items_view}
 use Rattle.toml.specs.declared.value.Value.{Value}
 use Rattle.std.proofs.lemmas.Option.{same_Some, none-some}
-use Rattle.error_bounds.specs.Forms.{all_members, of_kind, ends_of, three, codes_for, dual_codes, is_from}
+use Rattle.error_bounds.specs.Forms.{all_members, of_kind, ends_of, three, codes_for, dual_codes, is_from, is_near_ground, um}
 use Rattle.error_bounds.specs.declared.fault.Fault.{Fault}
-use Rattle.error_bounds.specs.Sizes.{IsHalfSide}
+use Rattle.error_bounds.specs.Sizes.{IsHalfSide, IsNearGround}
 use Rattle.error_bounds.specs.declared.fault.Fault.TheVariants.{Outside}
 use Rattle.error_bounds.specs.declared.signals.Mode.TheVariants as mode
 use lib.Signed.{le_z}
@@ -54,7 +59,7 @@ not_two most (x ∷ []) other = refl
 not_two most (x ∷ y ∷ []) other = absurd (other refl)
 not_two most (x ∷ y ∷ z ∷ ns) other = refl
 
-pub not_three : (passes : ℤ → Bool) (ns : List ℤ) → (length ns ≢ 3) → three passes ns ≡ Err Outside
+pub not_three : (passes : ℤ → ℤ → ℤ → Bool) (ns : List ℤ) → (length ns ≢ 3) → three passes ns ≡ Err Outside
 not_three passes [] other = refl
 not_three passes (x ∷ []) other = refl
 not_three passes (x ∷ y ∷ []) other = refl
@@ -95,3 +100,31 @@ pub coordinate_of : (n m : ℤ) → is_from (negsuc 8499999999) (pos 8500000000)
 coordinate_of n m h e =
     let (low, high) = from_between (negsuc 8499999999) (pos 8500000000) n h in
     record { low = omega (arith, ints, low, e); high = omega (arith, ints, high, e) }
+
+-- ---- near the ground
+
+square_in_um : (x : ℤ) → um x *ℤ um x ≡ pos (nat_abs x * nat_abs x) *ℤ pos 1000000
+square_in_um x = swap4 x x (pos 1000) (pos 1000) ∙ ap (λ s. s *ℤ pos 1000000) (square_of_amount x)
+
+near_sum : (x y z : ℤ) → is_near_ground x y z ≡ true
+    → sum_of_squares x y z ≤ 6600000000 * 6600000000
+near_sum x y z h = grind (arith, nat_tests)
+
+pub near_ground : (x y z : ℤ) → is_near_ground x y z ≡ true
+    → IsNearGround (record { x = um x; y = um y; z = um z })
+near_ground x y z h = omega (arith, ints, square_in_um x, square_in_um y, square_in_um z, near_sum x y z h)
+
+one_side : (z : ℤ) (rest n : ℕ) → square (nat_abs z) + rest ≤ n * n → IsWithin n z
+one_side z rest n h =
+    let k : nat_abs z * nat_abs z ≤ n * n = omega (arith, h) in
+    let l : nat_abs z ≤ n = grind (arith, square-mono (n + 1) (nat_abs z), k) in
+    record { low = omega (arith, ints); high = omega (arith, ints) }
+
+pub near_sides : (x y z : ℤ) → is_near_ground x y z ≡ true
+    → IsWithin 6600000000 x × IsWithin 6600000000 y × IsWithin 6600000000 z
+near_sides x y z h =
+    let sum = near_sum x y z h in (
+      one_side x (square (nat_abs y) + square (nat_abs z)) 6600000000 (omega (arith, sum)),
+      one_side y (square (nat_abs x) + square (nat_abs z)) 6600000000 (omega (arith, sum)),
+      one_side z (square (nat_abs x) + square (nat_abs y)) 6600000000 (omega (arith, sum)),
+    )

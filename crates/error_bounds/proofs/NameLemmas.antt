@@ -16,18 +16,19 @@ first_of_texts xs x (k, bound, here) first = record {
       rw (get_or-map string_bytes xs i x d inside) (first i x inside);
 }
 
-six_joined : {X : Type 0} (a b c d e f : List X)
-    → ((((a ++ b) ++ c) ++ d) ++ e) ++ f ≡ a ++ (b ++ (c ++ (d ++ (e ++ f))))
-six_joined a b c d e f =
-    append_assoc (((a ++ b) ++ c) ++ d) e f
-    ∙ (append_assoc ((a ++ b) ++ c) d (e ++ f)
-    ∙ (append_assoc (a ++ b) c (d ++ (e ++ f)) ∙ append_assoc a b (c ++ (d ++ (e ++ f)))))
+seven_joined : {X : Type 0} (a b c d e f g : List X)
+    → (((((a ++ b) ++ c) ++ d) ++ e) ++ f) ++ g ≡ a ++ (b ++ (c ++ (d ++ (e ++ (f ++ g)))))
+seven_joined a b c d e f g =
+    append_assoc ((((a ++ b) ++ c) ++ d) ++ e) f g
+    ∙ (append_assoc (((a ++ b) ++ c) ++ d) e (f ++ g)
+    ∙ (append_assoc ((a ++ b) ++ c) d (e ++ (f ++ g))
+    ∙ (append_assoc (a ++ b) c (d ++ (e ++ (f ++ g))) ∙ append_assoc a b (c ++ (d ++ (e ++ (f ++ g)))))))
 
 -- lists that are added one behind another
-pub all_added : {X : Type 0} (a b c d e f g n1 n2 n3 n4 n5 n6 n7 : List X)
+pub all_added : {X : Type 0} (a b c d e f g h n1 n2 n3 n4 n5 n6 n7 n8 : List X)
     → n1 ≡ a → n2 ≡ n1 ++ b → n3 ≡ n2 ++ c → n4 ≡ n3 ++ d → n5 ≡ n4 ++ e → n6 ≡ n5 ++ f
-    → n7 ≡ n6 ++ g
-    → n7 ≡ a ++ (b ++ (c ++ (d ++ (e ++ (f ++ g)))))
-all_added a b c d e f g n1 n2 n3 n4 n5 n6 n7 e1 e2 e3 e4 e5 e6 e7 =
-    rw (e7, e6, e5, e4, e3, e2, e1)
-    (append_assoc (((((a ++ b) ++ c) ++ d) ++ e)) f g ∙ six_joined a b c d e (f ++ g))
+    → n7 ≡ n6 ++ g → n8 ≡ n7 ++ h
+    → n8 ≡ a ++ (b ++ (c ++ (d ++ (e ++ (f ++ (g ++ h))))))
+all_added a b c d e f g h n1 n2 n3 n4 n5 n6 n7 n8 e1 e2 e3 e4 e5 e6 e7 e8 =
+    rw (e8, e7, e6, e5, e4, e3, e2, e1)
+    (append_assoc ((((((a ++ b) ++ c) ++ d) ++ e) ++ f)) g h ∙ seven_joined a b c d e f (g ++ h))

@@ -1,7 +1,7 @@
 -- A tree's first fault, table by table.
 use Rattle.std.proofs.Common.{◌≡◌, ◌++◌, List, None, refl, ◌∙◌, inl, inr}
 use Rattle.toml.specs.Data.{Members}
-use Rattle.error_bounds.specs.Keys.{Test, tests, search_tests, signal_tests, bounds_tests, galileo_tests, motion_tests, satellite_tests, first_found}
+use Rattle.error_bounds.specs.Keys.{Test, tests, search_tests, signal_tests, bounds_tests, galileo_tests, motion_tests, station_tests, satellite_tests, first_found}
 use Rattle.error_bounds.specs.Names.{unknown}
 use Rattle.error_bounds.specs.Reading.{TellsFirst, RefusesTests, RefusesTree, RefusesName}
 use Rattle.error_bounds.specs.declared.fault.Fault.TheVariants.{Unknown}
@@ -10,8 +10,11 @@ use Rattle.error_bounds.specs.declared.fault.SettingsError.TheVariants.{Refused,
 use Rattle.error_bounds.specs.declared.fault.SettingsFault.{SettingsFault}
 use Rattle.error_bounds.proofs.KeyLemmas.{found_before, found_behind}
 
+abbrev behind_motion : Members → List Test
+behind_motion tree = station_tests tree ++ satellite_tests tree
+
 abbrev behind_galileo : Members → List Test
-behind_galileo tree = motion_tests tree ++ satellite_tests tree
+behind_galileo tree = motion_tests tree ++ behind_motion tree
 
 abbrev behind_bounds : Members → List Test
 behind_bounds tree = galileo_tests tree ++ behind_galileo tree
@@ -39,20 +42,28 @@ module _ (tree : Members) (a : first_found (search_tests tree) ≡ None) where
         after_galileo = after_bounds ∙ found_behind (galileo_tests tree) (behind_galileo tree) g
 
         module _ (m : first_found (motion_tests tree) ≡ None) where
-          after_motion : first_found (tests tree) ≡ first_found (satellite_tests tree)
-          after_motion = after_galileo ∙ found_behind (motion_tests tree) (satellite_tests tree) m
+          after_motion : first_found (tests tree) ≡ first_found (behind_motion tree)
+          after_motion = after_galileo ∙ found_behind (motion_tests tree) (behind_motion tree) m
 
-          pub all_none : first_found (satellite_tests tree) ≡ None → first_found (tests tree) ≡ None
-          all_none e = after_motion ∙ e
+          module _ (s : first_found (station_tests tree) ≡ None) where
+            after_station : first_found (tests tree) ≡ first_found (satellite_tests tree)
+            after_station = after_motion ∙ found_behind (station_tests tree) (satellite_tests tree) s
 
-          pub from_satellites : (error : SettingsError) → RefusesTests (satellite_tests tree) error
-              → RefusesTree tree error
-          from_satellites NoMemory refused = tt
-          from_satellites (Refused told) (found, here, tells) = (found, inl (after_motion ∙ here), tells)
+            pub all_none : first_found (satellite_tests tree) ≡ None → first_found (tests tree) ≡ None
+            all_none e = after_station ∙ e
+
+            pub from_satellites : (error : SettingsError) → RefusesTests (satellite_tests tree) error
+                → RefusesTree tree error
+            from_satellites NoMemory refused = tt
+            from_satellites (Refused told) (found, here, tells) = (found, inl (after_station ∙ here), tells)
+
+          pub from_station : (told : SettingsFault) → TellsFirst (station_tests tree) told
+              → RefusesTree tree (Refused told)
+          from_station told (found, here, tells) = (found, inl (after_motion ∙ found_before (station_tests tree) (satellite_tests tree) found here), tells)
 
         pub from_motion : (told : SettingsFault) → TellsFirst (motion_tests tree) told
             → RefusesTree tree (Refused told)
-        from_motion told (found, here, tells) = (found, inl (after_galileo ∙ found_before (motion_tests tree) (satellite_tests tree) found here), tells)
+        from_motion told (found, here, tells) = (found, inl (after_galileo ∙ found_before (motion_tests tree) (behind_motion tree) found here), tells)
 
       pub from_galileo : (told : SettingsFault) → TellsFirst (galileo_tests tree) told
           → RefusesTree tree (Refused told)

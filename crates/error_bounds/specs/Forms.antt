@@ -1,8 +1,10 @@
 -- What a value in the tree of the text has to be: first its kind, then what is read from it.
 -- Lengths stand in mm in the text and are read in um.
-use Rattle.std.specs.Prelude.{ℕ, ℤ, pos, neg_ℤ, ◌*ℤ◌, unsigned_abs, nat_eq, Bool, true, false, ◌&&◌, if◌then◌else◌, codes, List, [], ◌∷◌, Option, None, Some, option_map, option_and_then, Result, Ok, Err}
+use Rattle.std.specs.Prelude.{ℕ, ℤ, pos, neg_ℤ, ◌*ℤ◌, unsigned_abs, nat_eq, nat_le, Bool, true, false, ◌&&◌, if◌then◌else◌, codes, List, [], ◌∷◌, Option, None, Some, option_map, option_and_then, Result, Ok, Err}
 use lib.Pointwise.{pointwise}
 use lib.Signed.{le_z}
+use Rattle.grid_model.specs.Amounts.{square}
+use Rattle.grid_model.specs.Squares.{sum_of_squares}
 use Rattle.grid_model.specs.declared.boxes.Pos.{Pos}
 use Rattle.gnss_model.specs.declared.satellites.Signal.{Signal}
 use Rattle.gnss_model.specs.declared.satellites.Signal.TheVariants as signal
@@ -78,11 +80,15 @@ ends_of most _ = Err Outside
 abbrev pub errors : ℕ → Data → Result (ℤ × ℤ) Fault
 errors most d = of_kind (as_list_of as_integer d) (ends_of most)
 
--- three lengths that pass one test
-abbrev pub three : (ℤ → Bool) → List ℤ → Result Pos Fault
+-- three lengths that pass a test
+abbrev pub three : (ℤ → ℤ → ℤ → Bool) → List ℤ → Result Pos Fault
 three passes (x ∷ y ∷ z ∷ []) =
-    right ((passes x && passes y) && passes z) (record { x = um x; y = um y; z = um z })
+    right (passes x y z) (record { x = um x; y = um y; z = um z })
 three passes _ = Err Outside
+
+-- each of the three passes one test
+abbrev pub each : (ℤ → Bool) → ℤ → ℤ → ℤ → Bool
+each passes x y z = (passes x && passes y) && passes z
 
 abbrev pub is_coordinate : ℤ → Bool
 is_coordinate n = is_within 8500000000 n
@@ -98,13 +104,23 @@ at (Err e) = Err e
 abbrev pub place : Data → Result Centre Fault
 place d =
     or_form (as_str d) (λ text. right (is_text text (codes "header")) centre.Header)
-    (at (of_kind (as_list_of as_integer d) (three is_coordinate)))
+    (at (of_kind (as_list_of as_integer d) (three (each is_coordinate))))
+
+-- within 6,600 km of the origin
+abbrev pub is_near_ground : ℤ → ℤ → ℤ → Bool
+is_near_ground x y z = nat_le (sum_of_squares x y z) (square 6600000000)
+
+-- where a station stands: `"header"`, or three coordinates
+abbrev pub ground_place : Data → Result Centre Fault
+ground_place d =
+    or_form (as_str d) (λ text. right (is_text text (codes "header")) centre.Header)
+    (at (of_kind (as_list_of as_integer d) (three is_near_ground)))
 
 -- one half side for all three axes, or one each
 abbrev pub half_sides : Data → Result Pos Fault
 half_sides d =
-    or_form (as_integer d) (λ n. three is_half (n ∷ n ∷ n ∷ []))
-    (of_kind (as_list_of as_integer d) (three is_half))
+    or_form (as_integer d) (λ n. three (each is_half) (n ∷ n ∷ n ∷ []))
+    (of_kind (as_list_of as_integer d) (three (each is_half)))
 
 -- `"single"` or `"dual"`
 abbrev pub mode_word : Data → Result Mode Fault

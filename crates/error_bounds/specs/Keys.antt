@@ -1,5 +1,5 @@
 -- The keys of the settings, in the order in which they are tested.
-use Rattle.std.specs.Prelude.{ℕ, Bool, cond, false, ◌+◌, ◌-◌, ◌/◌, ◌%◌, ℤ, codes, List, [], ◌∷◌, ◌++◌, map, Option, None, Some, ok_or, Result, Ok, Err, true, is_some}
+use Rattle.std.specs.Prelude.{ℕ, Bool, cond, false, ◌+◌, ◌-◌, ◌/◌, ◌%◌, min, ℤ, codes, List, [], ◌∷◌, ◌++◌, map, Option, None, Some, ok_or, Result, Ok, Err, true, is_some}
 use Rattle.std.specs.List.{range_with_len}
 use Rattle.grid_model.specs.declared.boxes.Pos.{Pos}
 use Rattle.gnss_model.specs.declared.satellites.Sat.{Sat}
@@ -8,7 +8,7 @@ use Rattle.gnss_model.specs.declared.systems.Message.{Message}
 use Rattle.gnss_model.specs.declared.systems.Message.TheVariants.{Fnav, Inav}
 use Rattle.toml.specs.Data.{Data, Members, no_members, get_member, as_table}
 use Rattle.error_bounds.specs.Faults.{Found}
-use Rattle.error_bounds.specs.Forms.{count, length_from, truth, errors, place, half_sides, mode_word, code_list, message_word, galileo_list}
+use Rattle.error_bounds.specs.Forms.{count, length_from, truth, errors, place, ground_place, half_sides, mode_word, code_list, message_word, galileo_list}
 use Rattle.error_bounds.specs.declared.fault.Fault.{Fault}
 use Rattle.error_bounds.specs.declared.fault.Fault.TheVariants.{Missing, WrongKind, Outside}
 use Rattle.error_bounds.specs.declared.signals.Mode.{Mode}
@@ -124,6 +124,16 @@ galileo_offset = record { table = codes "galileo"; name = codes "offset"; form =
 -- the greatest speed of the receiver, in mm/s: up to 1 km/s, and it may be absent
 abbrev pub speed : Key ℕ
 speed = record { table = codes "motion"; name = codes "speed"; form = count 0 1000000 }
+
+-- where a station stands
+abbrev pub station_place : Key Centre
+station_place = record { table = codes "station"; name = codes "place"; form = ground_place }
+
+-- how far, in s, its epochs may be from those of the receiver: up to 600, and together with the age
+-- of records up to 14,400
+abbrev pub station_age : ℕ → Key ℕ
+station_age records =
+    record { table = codes "station"; name = codes "age"; form = count 1 (min 600 (14400 - records)) }
 
 -- the letter of the system and two digits
 abbrev pub satellite_name : Sat → List ℕ
@@ -291,6 +301,25 @@ message_at tree = message_from (get_member (codes "galileo") tree)
 abbrev pub motion_tests : Members → List Test
 motion_tests tree = test_optional_at speed tree ∷ []
 
+-- The table of a station may be absent; where it is there both keys are needed. Its age goes by that
+-- of records; where that has a fault of its own, it comes first.
+abbrev pub age_or_none : Result ℕ Fault → ℕ
+age_or_none (Ok age) = age
+age_or_none (Err fault) = 0
+
+abbrev pub records_age : Members → ℕ
+records_age tree = age_or_none (value_of max_age tree)
+
+abbrev pub station_keys : ℕ → Members → List Test
+station_keys records tree = test station_place tree ∷ test (station_age records) tree ∷ []
+
+abbrev pub station_tests_in : Option Data → Members → List Test
+station_tests_in None tree = []
+station_tests_in (Some d) tree = station_keys (records_age tree) tree
+
+abbrev pub station_tests : Members → List Test
+station_tests tree = station_tests_in (get_member (codes "station") tree) tree
+
 -- and so may that of the satellites
 abbrev pub satellites_in : Option Data → Result Members Fault
 satellites_in None = Ok no_members
@@ -317,7 +346,8 @@ tests tree =
     ++ (bounds_tests tree
     ++ (galileo_tests tree
     ++ (motion_tests tree
-    ++ satellite_tests tree))))
+    ++ (station_tests tree
+    ++ satellite_tests tree)))))
 
 -- the first of them that finds a fault
 abbrev pub first_or : Option Fault → List ℕ → Option Found → Option Found

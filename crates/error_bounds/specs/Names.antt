@@ -8,7 +8,7 @@ use Rattle.toml.specs.Data.{Data, Members, no_members, member, get_member, as_ta
 use Rattle.gnss_model.specs.declared.systems.Message.TheVariants.{Fnav}
 use Rattle.error_bounds.specs.declared.signals.Mode.TheVariants.{Dual}
 use Rattle.error_bounds.specs.Forms.{is_text}
-use Rattle.error_bounds.specs.Keys.{Test, dotted, has_galileo, galileo_message, galileo_keys, printed, search_tests, signal_tests, bounds_tests, motion_tests}
+use Rattle.error_bounds.specs.Keys.{Test, dotted, has_galileo, galileo_message, galileo_keys, printed, search_tests, signal_tests, bounds_tests, motion_tests, station_keys}
 
 -- the members with a name that isn't known, each as its name is printed
 abbrev pub strangers : (List ℕ → Bool) → (List ℕ → List ℕ) → Members → List (List ℕ)
@@ -21,7 +21,7 @@ abbrev pub is_table : List ℕ → Bool
 is_table name =
     list_any (is_text name)
     (codes "search" ∷ codes "signal" ∷ codes "bounds" ∷ codes "galileo" ∷ codes "motion"
-    ∷ codes "satellite" ∷ [])
+    ∷ codes "station" ∷ codes "satellite" ∷ [])
 
 -- `G01` to `G99`, and where the table `galileo` is there also `E01` to `E99`
 abbrev pub is_satellite : Bool → List ℕ → Bool
@@ -67,7 +67,8 @@ unknown tree =
     ++ (strangers_among (codes "bounds") (bounds_tests tree) tree
     ++ (strangers_among (codes "galileo") (galileo_names tree) tree
     ++ (strangers_among (codes "motion") (motion_tests tree) tree
-    ++ strangers_at (codes "satellite") (is_satellite (has_galileo tree)) tree)))))
+    ++ (strangers_among (codes "station") (station_keys 0 tree) tree
+    ++ strangers_at (codes "satellite") (is_satellite (has_galileo tree)) tree))))))
 
 -- a name of a list that none of the others comes before in byte order
 pub record IsFirstName (names : List (List ℕ)) (name : List ℕ) : Type 0 where

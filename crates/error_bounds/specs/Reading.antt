@@ -15,7 +15,7 @@ use Rattle.error_bounds.specs.Names.{unknown, IsFirstName}
 use Rattle.std.specs.List.{All}
 use Rattle.error_bounds.specs.Sizes.{IsNearEarth, AreDeclared, IsBefore, IsAscending}
 use Rattle.error_bounds.specs.declared.galileo.Galileo.{Galileo}
-use Rattle.error_bounds.specs.Texts.{GalileoValue, SettingsValue, IsValue, IsFirstFault, IsFound, add}
+use Rattle.error_bounds.specs.Texts.{GalileoValue, StationValue, SettingsValue, IsValue, IsFirstFault, IsFound, add}
 use Rattle.error_bounds.specs.declared.fault.Fault.{Fault}
 use Rattle.error_bounds.specs.declared.fault.Fault.TheVariants.{Unknown}
 use Rattle.error_bounds.specs.declared.search.Search.{Search}
@@ -29,6 +29,7 @@ use Rattle.error_bounds.specs.declared.fault.SettingsFault.{SettingsFault}
 use Rattle.error_bounds.specs.declared.settings.Centre.{Centre}
 use Rattle.error_bounds.specs.declared.settings.Centre.TheVariants.{Header, At}
 use Rattle.error_bounds.specs.declared.settings.Settings.{Settings}
+use Rattle.error_bounds.specs.declared.station.DeclaredStation.{DeclaredStation}
 
 -- satellites and the ends of their spans
 abbrev pub with_ends : List (Sat × Span) → List (Sat × (ℤ × ℤ))
@@ -48,6 +49,10 @@ abbrev pub galileo_use_of : Option GalileoValue → Option GalileoUse
 galileo_use_of None = None
 galileo_use_of (Some galileo) = Some (record { message = galileo.message; signal = galileo.signal })
 
+-- a station that is declared, as a plain value
+abbrev pub station_value : DeclaredStation → StationValue
+station_value s = record { place = s.place; age = s.age }
+
 -- settings as a plain value
 abbrev pub value_of_settings : Settings → SettingsValue
 value_of_settings s = record {
@@ -66,6 +71,7 @@ value_of_settings s = record {
   vertical = option_map ends s.delays.vertical;
   galileo = option_map galileo_value s.galileo;
   speed = s.speed;
+  station = option_map station_value s.station;
 }
 
 -- a refusal tells of a fault
@@ -87,7 +93,7 @@ optional_data_of (Err fault) = Err fault
 abbrev pub AreThree : Data → Result (ℤ × ℤ × ℤ) Fault → Type 0
 AreThree d (Ok n) = as_list_of as_integer d ≡ Some (n.0 ∷ n.1 ∷ n.2 ∷ [])
 AreThree d (Err fault) =
-    (passes : ℤ → Bool) → of_kind (as_list_of as_integer d) (three passes) ≡ Err fault
+    (passes : ℤ → ℤ → ℤ → Bool) → of_kind (as_list_of as_integer d) (three passes) ≡ Err fault
 
 -- what is read at a key by a form, or the fault at it
 abbrev pub Answers : {V : Type 0} → (Data → Result V Fault → Type 0) → List ℕ → List ℕ → Members

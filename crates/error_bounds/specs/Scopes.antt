@@ -20,6 +20,7 @@ knows scope.Bounds name =
 knows scope.Galileo name =
     list_any (is_text name) (codes "message" ∷ codes "codes" ∷ codes "offset" ∷ [])
 knows scope.Motion name = list_any (is_text name) (codes "speed" ∷ [])
+knows scope.Station name = list_any (is_text name) (codes "place" ∷ codes "age" ∷ [])
 knows (scope.Satellite both) name = is_satellite both name
 
 abbrev pub prefix_of : Scope → List ℕ
@@ -29,6 +30,7 @@ prefix_of scope.Signal = codes "signal."
 prefix_of scope.Bounds = codes "bounds."
 prefix_of scope.Galileo = codes "galileo."
 prefix_of scope.Motion = codes "motion."
+prefix_of scope.Station = codes "station."
 prefix_of (scope.Satellite both) = codes "satellite."
 
 abbrev pub printed_in : Scope → List ℕ → List ℕ

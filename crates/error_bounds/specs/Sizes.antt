@@ -1,5 +1,5 @@
 -- What each value of the settings keeps to. Lengths are in um.
-use Rattle.std.specs.Prelude.{◌≡◌, ℕ, ◌+◌, ◌*◌, ◌<◌, ◌≤◌, Option, ℤ, pos, Bool, false, ◌&&◌, ◌==◌, nat_le, List, [], ◌∷◌, length, ◌≤ℤ◌, slice_index_or}
+use Rattle.std.specs.Prelude.{◌≡◌, ℕ, ◌+◌, ◌*◌, ◌^◌, ◌<◌, ◌≤◌, Option, ℤ, pos, ◌+ℤ◌, ◌*ℤ◌, Bool, false, ◌&&◌, ◌==◌, nat_le, List, [], ◌∷◌, length, ◌≤ℤ◌, slice_index_or}
 use Rattle.std.specs.List.{All}
 use Rattle.std.specs.Option.{ForSome}
 use Rattle.grid_model.specs.Sizes.{IsWithin}
@@ -47,6 +47,19 @@ IsSumOfFour s = IsSpanWithin 4000000000 s
 -- a speed, where one is declared, is up to 1 km/s, in mm/s
 abbrev pub IsSpeed : Option ℕ → Type 0
 IsSpeed speed = ForSome speed (λ declared. declared ≤ 1000000)
+
+-- how far from the origin a station stands: 6,600 km in um
+abbrev pub station_reach : ℕ
+station_reach = 66 * 10 ^ 11
+
+-- ... at most
+abbrev pub IsNearGround : Pos → Type 0
+IsNearGround p = ((p.x *ℤ p.x) +ℤ (p.y *ℤ p.y) +ℤ (p.z *ℤ p.z))
+    ≤ℤ pos (station_reach * station_reach)
+
+-- the place of a station, where it is a point
+pub record IsStationPlace (place : Centre) : Type 0 where
+  pub near : (p : Pos) → place ≡ At p → IsNearGround p
 
 -- the letters from A to Z
 abbrev pub is_capital : ℕ → Bool

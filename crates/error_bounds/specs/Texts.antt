@@ -20,6 +20,11 @@ pub record GalileoValue : Type 0 where
   pub signal : Signal
   pub offset : ℤ × ℤ
 
+-- where a station stands, and how far in s its epochs may be from those of the receiver
+pub record StationValue : Type 0 where
+  pub place : Centre
+  pub age : ℕ
+
 -- settings as they stand in a text, with lengths in um
 pub record SettingsValue : Type 0 where
   pub centre : Centre
@@ -37,6 +42,7 @@ pub record SettingsValue : Type 0 where
   pub vertical : Option (ℤ × ℤ)
   pub galileo : Option GalileoValue
   pub speed : Option ℕ
+  pub station : Option StationValue
 
 -- the sum of two spans, each a pair of ends
 abbrev pub add : ℤ × ℤ → ℤ × ℤ → ℤ × ℤ
@@ -64,6 +70,13 @@ IsGalileo tree (Some g) =
     × (key.value_of (key.galileo_codes (key.mode_of tree) g.message) tree ≡ Ok g.signal)
     × (key.value_of key.galileo_offset tree ≡ Ok g.offset)
 
+-- what the table of a station gives, where it is there
+abbrev pub IsStation : Members → Option StationValue → Type 0
+IsStation tree None = get_member (codes "station") tree ≡ None
+IsStation tree (Some s) =
+    (key.value_of key.station_place tree ≡ Ok s.place)
+    × (key.value_of (key.station_age (key.records_age tree)) tree ≡ Ok s.age)
+
 -- the value that the keys of a tree give
 pub record IsValue (tree : Members) (v : SettingsValue) : Type 0 where
   pub centre : key.value_of key.centre tree ≡ Ok v.centre
@@ -89,6 +102,7 @@ pub record IsValue (tree : Members) (v : SettingsValue) : Type 0 where
   pub vertical : key.optional_at key.vertical tree ≡ Ok v.vertical
   pub galileo : IsGalileo tree v.galileo
   pub speed : key.optional_at key.speed tree ≡ Ok v.speed
+  pub station : IsStation tree v.station
 
 -- the first fault of a tree: the first key with one, and behind all keys the first unknown name
 abbrev pub IsFound : Members → Found → Type 0

@@ -17,9 +17,12 @@ mod search;
 mod search_box;
 mod settings;
 mod signals;
+mod station;
+mod station_table;
 mod tables;
 
 pub use fault::{Fault, KeyText, SettingsError, SettingsFault};
 pub use galileo::Galileo;
 pub use read::read_settings;
 pub use settings::{Centre, Settings};
+pub use station::DeclaredStation;

@@ -23,6 +23,7 @@ enum Scope {
     Bounds,
     Galileo,
     Motion,
+    Station,
     Satellite { both: bool },
 }
 
@@ -40,6 +41,7 @@ impl Scope {
             Scope::Bounds => is_bound(name),
             Scope::Galileo => name == "message" || name == "codes" || name == "offset",
             Scope::Motion => name == "speed",
+            Scope::Station => name == "place" || name == "age",
             Scope::Satellite { both } => is_satellite(name, both),
         }
     }
@@ -55,6 +57,7 @@ impl Scope {
             Scope::Bounds => "bounds.",
             Scope::Galileo => "galileo.",
             Scope::Motion => "motion.",
+            Scope::Station => "station.",
             Scope::Satellite { .. } => "satellite.",
         }
     }
@@ -69,6 +72,7 @@ fn is_table(name: &str) -> bool
         || name == "bounds"
         || name == "galileo"
         || name == "motion"
+        || name == "station"
         || name == "satellite"
 }
 
@@ -172,6 +176,7 @@ fn unknown_names(alloc: Global, tree: &Table) -> Result<Vec<String>, AllocError>
     add_unknown_in(alloc, &mut names, Scope::Bounds, tree, "bounds")?;
     add_unknown_in(alloc, &mut names, Scope::Galileo, tree, "galileo")?;
     add_unknown_in(alloc, &mut names, Scope::Motion, tree, "motion")?;
+    add_unknown_in(alloc, &mut names, Scope::Station, tree, "station")?;
     let satellite = Scope::Satellite {
         both: has_galileo(tree),
     };

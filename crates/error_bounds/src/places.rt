@@ -1,11 +1,12 @@
-//! The centre of the search box and its half sides.
+//! The centre of the search box and its half sides, and the place of a station.
 
-ghost use Rattle.std.specs.Prelude.{◌≡◌, [], ◌∷◌, codes, IfOk};
+ghost use Rattle.std.specs.Prelude.{◌≡◌, ◌+◌, ◌^◌, ◌≤◌, [], ◌∷◌, codes, IfOk};
+ghost use Rattle.grid_model.specs.Amounts.{square};
 ghost use Rattle.grid_model.specs.Sizes.{IsWithin};
 ghost use Rattle.toml.specs.View.{view};
-ghost use Rattle.error_bounds.specs.Forms.{place, half_sides, three, um, is_half, is_coordinate, is_text, right};
+ghost use Rattle.error_bounds.specs.Forms.{place, ground_place, half_sides, three, each, um, is_half, is_coordinate, is_near_ground, is_text, right};
 ghost use Rattle.error_bounds.specs.Reading.{AreThree};
-ghost use Rattle.error_bounds.specs.Sizes.{IsNearEarth, IsCentre, AreHalfSides};
+ghost use Rattle.error_bounds.specs.Sizes.{IsNearEarth, IsCentre, IsNearGround, IsStationPlace, AreHalfSides};
 
 use crate::fault::Fault;
 use crate::form::{Form, are_integers, is_within};
@@ -16,12 +17,19 @@ use toml::Value;
 /// The greatest amount of a coordinate, in mm.
 const MAX_COORDINATE: u64 = 8_500_000_000;
 
+/// The greatest distance of a station from the origin, in mm.
+const STATION_REACH: u128 = 6_600_000_000;
+
 /// The greatest half side, in mm.
 const MAX_HALF: i64 = 100_000_000;
 
 /// `"header"`, or three coordinates in mm.
 #[derive(Clone, Copy)]
 pub struct Place;
+
+/// `"header"`, or three coordinates in mm of a point within 6,600 km of the origin.
+#[derive(Clone, Copy)]
+pub struct GroundPlace;
 
 /// One half side in mm for all three axes, or one for each.
 #[derive(Clone, Copy)]
@@ -43,6 +51,28 @@ impl Form for Place {
             Err(fault) => return Err(fault),
         };
         match point(x, y, z) {
+            Ok(p) => Ok(Centre::At(p)),
+            Err(fault) => Err(fault),
+        }
+    }
+}
+
+impl Form for GroundPlace {
+    type Output = Centre;
+
+    ghost reads = { λ form d r. r ≡ ground_place d };
+
+    ghost allows = { λ form place. IsStationPlace place };
+
+    fn read(&self, value: &Value) -> Result<Centre, Fault> {
+        if let Some(text) = value.as_str() {
+            return header(text);
+        }
+        let (x, y, z) = match three(value) {
+            Ok(numbers) => numbers,
+            Err(fault) => return Err(fault),
+        };
+        match ground_point(x, y, z) {
             Ok(p) => Ok(Centre::At(p)),
             Err(fault) => Err(fault),
         }
@@ -99,7 +129,7 @@ fn three(value: &Value) -> Result<(i64, i64, i64), Fault>
 
 /// The point with these coordinates in mm, each within 8,500 km.
 fn point(x: i64, y: i64, z: i64) -> Result<Pos, Fault>
-    ensures value { result ≡ three is_coordinate (x ∷ y ∷ z ∷ []) }
+    ensures value { result ≡ three (each is_coordinate) (x ∷ y ∷ z ∷ []) }
     ensures near { IfOk result IsNearEarth }
 {
     if is_within(MAX_COORDINATE, x)
@@ -112,9 +142,40 @@ fn point(x: i64, y: i64, z: i64) -> Result<Pos, Fault>
     }
 }
 
+/// The point with these coordinates in mm, within 6,600 km of the origin.
+fn ground_point(x: i64, y: i64, z: i64) -> Result<Pos, Fault>
+    ensures value { result ≡ three is_near_ground (x ∷ y ∷ z ∷ []) }
+    ensures near { IfOk result IsNearGround }
+{
+    if is_near_ground(x, y, z) {
+        Ok(in_um(x, y, z))
+    } else {
+        Err(Fault::Outside)
+    }
+}
+
+/// Whether a point with these coordinates in mm is within 6,600 km of the origin.
+fn is_near_ground(x: i64, y: i64, z: i64) -> bool
+    ensures { result ≡ is_near_ground x y z }
+{
+    let sum = sum_of_squares(x.unsigned_abs(), y.unsigned_abs(), z.unsigned_abs());
+    sum <= STATION_REACH * STATION_REACH
+}
+
+/// Three squares, added.
+fn sum_of_squares(x: u64, y: u64, z: u64) -> u128
+    requires x_fits { x ≤ 2 ^ 63 }
+    requires y_fits { y ≤ 2 ^ 63 }
+    requires z_fits { z ≤ 2 ^ 63 }
+    ensures { result ≡ square x + square y + square z }
+{
+    let (x, y, z) = (u128::from(x), u128::from(y), u128::from(z));
+    x * x + y * y + z * z
+}
+
 /// The half sides of these lengths in mm, each from 1 mm to 100 km.
 fn halves(x: i64, y: i64, z: i64) -> Result<Pos, Fault>
-    ensures value { result ≡ three is_half (x ∷ y ∷ z ∷ []) }
+    ensures value { result ≡ three (each is_half) (x ∷ y ∷ z ∷ []) }
     ensures allowed { IfOk result AreHalfSides }
 {
     if is_half(x) && is_half(y) && is_half(z) {

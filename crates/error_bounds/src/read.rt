@@ -12,6 +12,7 @@ use crate::motion_table::read_motion;
 use crate::names::check_names;
 use crate::satellites::read_satellites;
 use crate::settings::Settings;
+use crate::station_table::read_station;
 use crate::tables::{read_bounds, read_search, read_signal};
 use std::alloc::Global;
 use toml::Table;
@@ -26,6 +27,7 @@ fn read_tree(alloc: Global, tree: &Table) -> Result<Settings, SettingsError>
     let bounds = read_bounds(tree)?;
     let galileo = read_galileo(tree, mode)?;
     let speed = read_motion(tree)?;
+    let station = read_station(tree, search.max_age)?;
     let extra = read_satellites(alloc, tree)?;
     check_names(alloc, tree)?;
     Ok(Settings {
@@ -40,6 +42,7 @@ fn read_tree(alloc: Global, tree: &Table) -> Result<Settings, SettingsError>
         delays: bounds.delays,
         galileo,
         speed,
+        station,
     })
 }
 

@@ -1,12 +1,14 @@
 //! The settings of a run.
 
-ghost use Rattle.std.specs.Prelude.{◌≡◌, ◌≤◌, true};
+ghost use Rattle.std.specs.Prelude.{◌≡◌, ◌+◌, ◌≤◌, true};
+ghost use Rattle.std.specs.Option.{ForSome};
 ghost use Rattle.gnss_model.specs.Delays.{AreDelays};
 ghost use Rattle.error_bounds.specs.Sizes.{IsCentre, AreHalfSides, IsSumOfFour, IsDeclared, IsSpeed, IsAscending, are_codes, AreDeclared};
 
 use crate::bounds::sum;
 use crate::galileo::Galileo;
 use crate::search_box::box_around;
+use crate::station::DeclaredStation;
 use gnss_model::{Delays, GalileoUse, Sat, Signal};
 use grid_model::{Box3, Pos, Span};
 use sat_model::Rules;
@@ -45,6 +47,8 @@ pub struct Settings {
     /// The greatest speed of the receiver, in mm/s and up to 1 km/s, as the key `motion.speed`
     /// declares it.
     pub speed: Option<u32>,
+    /// The station whose epochs are taken beside those of the receiver, where one is declared.
+    pub station: Option<DeclaredStation>,
     pub ghost centre_within: { IsCentre centre },
     pub ghost half_within: { AreHalfSides half },
     pub ghost some_age: { 1 ≤ max_age },
@@ -55,6 +59,7 @@ pub struct Settings {
     pub ghost extra_once: { IsAscending extra.items },
     pub ghost delays_within: { AreDelays delays },
     pub ghost speed_within: { IsSpeed speed },
+    pub ghost ages: { ForSome station (λ declared. max_age + declared.age ≤ 14400) },
 }
 
 impl Settings {

@@ -3,6 +3,7 @@ pub mod PositionLemmas
 pub mod FileReads
 pub mod ReadingLemmas
 pub mod GrammarLemmas
-pub mod MotionLemmas
+pub mod SuitLemmas
+pub mod StationLemmas
 pub mod InputLemmas
 pub mod OneZones

@@ -11,7 +11,7 @@ use Rattle.exact_decimal.proofs.Units.{power_some}
 use Rattle.exact_decimal.specs.Units.{denominator, shift_of}
 use Rattle.exact_decimal.specs.declared.decimal.Decimal.{Decimal}
 use Rattle.exact_decimal.specs.declared.unit.Unit.TheVariants.{Length}
-use Rattle.rinex_obs.specs.Files.{Observations, obs_file_of, IsObsFileOf}
+use Rattle.rinex_obs.specs.Files.{Observations, obs_file_by, IsObsFileBy}
 use Rattle.rinex_obs.specs.Header.{Coordinates, IsCoordinate, IsPosition, Header, Wanted}
 use Rattle.rinex_obs.specs.Header.{header_end, Start, header_lines}
 use Rattle.rinex_obs.specs.declared.sought.Sought.{Sought}
@@ -79,21 +79,21 @@ lines_known sought header number (line ∷ more) start (inl (short, inr (goes_on
     cc
 lines_known sought header number (line ∷ more) start (inr (long, e)) = cc
 
-file_known : (sought : Sought) (lines : List TextLine) (o : Observations)
-    → obs_file_of sought true lines (Ok o) → IsKnown o.position
-file_known sought lines o (inl (version, is, inl (start, starts, inl (epochs, are, e)))) =
+file_known : (rising : Bool) (sought : Sought) (lines : List TextLine) (o : Observations)
+    → obs_file_by rising sought true lines (Ok o) → IsKnown o.position
+file_known rising sought lines o (inl (version, is, inl (start, starts, inl (epochs, are, e)))) =
     subst IsKnown (sym (ap (λ (p : Observations). p.position) (ok_same o _ e)))
     (lines_known sought _ version.number version.lines start starts)
-file_known sought lines o (inl (version, is, inl (start, starts, inr (f, are, e)))) = cc
-file_known sought lines o (inl (version, is, inr (f, starts, e))) = cc
-file_known sought lines o (inr (f, is, e)) = cc
+file_known rising sought lines o (inl (version, is, inl (start, starts, inr (f, are, e)))) = cc
+file_known rising sought lines o (inl (version, is, inr (f, starts, e))) = cc
+file_known rising sought lines o (inr (f, is, e)) = cc
 
 -- where the position is wanted, it is there
-pub known : (sought : Sought) (position : Bool) (bytes : List ℕ) (o : Observations)
-    → IsObsFileOf sought position bytes o → position ≡ true → IsKnown o.position
-known sought position bytes o is wanted =
-    file_known sought (lines_of bytes) o
-    (subst (λ (p : Bool). obs_file_of sought p (lines_of bytes) (Ok o)) wanted is)
+pub known : (rising : Bool) (sought : Sought) (position : Bool) (bytes : List ℕ) (o : Observations)
+    → IsObsFileBy rising sought position bytes o → position ≡ true → IsKnown o.position
+known rising sought position bytes o is wanted =
+    file_known rising sought (lines_of bytes) o
+    (subst (λ (p : Bool). obs_file_by rising sought p (lines_of bytes) (Ok o)) wanted is)
 
 pub enough : (centre : Centre) (point : Option Pos) → (wants_position centre ≡ true → IsKnown point)
     → IsEnough centre point

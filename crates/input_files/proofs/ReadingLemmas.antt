@@ -234,3 +234,15 @@ only_as xs a b v w only = record {
   ends = tt;
   later = only.later;
 }
+
+-- nothing was read
+pub only_nothing : {V : Type 0} (a : ShelfState) (v : V) → OnlyReads [] a a (Ok v)
+only_nothing a v = record {
+  untouched = record {
+    leaves = record { files = refl; written = refl; terms = refl };
+    openings = (refl, refl);
+    write_faults = refl;
+  };
+  ends = tt;
+  later = omega arith;
+}

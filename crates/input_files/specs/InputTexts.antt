@@ -34,6 +34,7 @@ file_fault_name number =
     else if nat_eq number 25 then codes "HeaderChange"
     else if nat_eq number 26 then codes "NotAscii"
     else if nat_eq number 27 then codes "TooMany"
+    else if nat_eq number 43 then codes "NotRising"
     else header_fault_name number
 
 -- the name of a fault of the settings
@@ -72,4 +73,5 @@ settings_fault_text fault =
 abbrev pub input_fault_text : InputFault → List ℕ
 input_fault_text (fault.Obs refusal) = file_fault_text (codes "obs") refusal
 input_fault_text (fault.Nav refusal) = file_fault_text (codes "nav") refusal
+input_fault_text (fault.Station refusal) = file_fault_text (codes "station") refusal
 input_fault_text (fault.Settings refusal) = settings_fault_text refusal

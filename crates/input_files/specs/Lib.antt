@@ -4,7 +4,9 @@ pub mod InputTexts
 pub mod NoticeTexts
 pub mod Reading
 pub mod Motion
+pub mod Suits
 pub mod Unread
 pub mod Logs
 pub mod Inputs
+pub mod Placed
 pub mod Zones

@@ -11,6 +11,7 @@ abbrev pub role_text : Role → List ℕ
 role_text role.Settings = codes "settings"
 role_text role.Nav = codes "nav"
 role_text role.Obs = codes "obs"
+role_text role.Station = codes "station"
 role_text role.Rows = codes "rows"
 role_text role.Zones = codes "zones"
 role_text role.Log = codes "log"

@@ -112,6 +112,7 @@ abbrev pub limit_of : Limits → Role → ℕ
 limit_of limits role.Settings = limits.settings
 limit_of limits role.Nav = limits.file
 limit_of limits role.Obs = limits.file
+limit_of limits role.Station = limits.file
 limit_of limits role.Rows = limits.file
 limit_of limits role.Zones = limits.settings
 limit_of limits role.Log = limits.log

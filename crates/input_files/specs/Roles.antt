@@ -9,6 +9,7 @@ abbrev pub slot_of : Role → Slot
 slot_of role.Settings = slot.Settings
 slot_of role.Nav = slot.Nav
 slot_of role.Obs = slot.Obs
+slot_of role.Station = slot.Station
 slot_of role.Rows = slot.Rows
 slot_of role.Zones = slot.Rows
 slot_of role.Log = slot.Log

@@ -3,10 +3,12 @@
 use error_bounds::SettingsFault;
 use rinex_text::Refusal;
 
-/// The first fault of an observation file, of a navigation file or of settings.
+/// The first fault of an observation file, of a navigation file, of a station's observation file or
+/// of settings.
 #[derive(Clone, Copy, PartialEq, Eq)]
 pub enum InputFault {
     Obs(Refusal),
     Nav(Refusal),
+    Station(Refusal),
     Settings(SettingsFault),
 }

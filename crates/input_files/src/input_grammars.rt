@@ -1,26 +1,31 @@
 //! The texts of a receiver's files.
 
 use crate::grammar::Grammar;
-use crate::motion::with_motion;
+use crate::inputs::wants_position;
 use crate::notice::Notice;
+use crate::placed::placed;
 use crate::role::Role;
+use crate::station_file::StationFile;
+use crate::suits::suited;
 use command_words::Selection;
-use error_bounds::{Settings, read_settings};
+use error_bounds::{DeclaredStation, Settings, read_settings};
 use gnss_model::Message;
 use rinex_nav::{Nav, read_nav_of};
-use rinex_obs::{Obs, Sought, read_obs_between};
+use rinex_obs::{Obs, Sought, read_obs_between, read_station};
 use std::alloc::Global;
 
-/// The texts of settings; of a receiver that moves its greatest speed has to be there.
+/// The texts of settings; of a receiver that moves its greatest speed has to be there, and a
+/// station's place exactly where its file is named.
 #[derive(Clone, Copy)]
 pub struct SettingsText {
     pub moving: bool,
+    pub stationed: bool,
 }
 
 impl Grammar<Settings> for SettingsText {
     ghost use Rattle.input_files.specs.Inputs.{settings_text};
 
-    ghost text = { λ t. settings_text t.moving };
+    ghost text = { λ t. settings_text t.moving t.stationed };
 
     fn role(&self) -> Role {
         Role::Settings
@@ -28,7 +33,7 @@ impl Grammar<Settings> for SettingsText {
 
     fn read(&self, alloc: Global, bytes: Vec<u8>) -> Result<Settings, Notice> {
         match read_settings(alloc, &bytes) {
-            Ok(settings) => with_motion(settings, self.moving),
+            Ok(settings) => suited(settings, self.moving, self.stationed),
             Err(error) => Err(Notice::of_settings(error)),
         }
     }
@@ -82,6 +87,32 @@ impl<'a> Grammar<Obs> for ObsText<'a> {
         match read_obs_between(alloc, &bytes, self.sought, self.position, from, to) {
             Ok(obs) => Ok(obs),
             Err(error) => Err(Notice::of_obs(error)),
+        }
+    }
+}
+
+/// The texts of a station's observation files, for the wanted codes: all epochs, and the place that
+/// the settings declare.
+#[derive(Clone, Copy)]
+pub struct StationText<'a> {
+    pub sought: &'a Sought,
+    pub declared: DeclaredStation,
+}
+
+impl<'a> Grammar<StationFile> for StationText<'a> {
+    ghost use Rattle.input_files.specs.Inputs.{station_text};
+
+    ghost text = { λ t. station_text t.sought.now t.declared.place t.declared.age };
+
+    fn role(&self) -> Role {
+        Role::Station
+    }
+
+    fn read(&self, alloc: Global, bytes: Vec<u8>) -> Result<StationFile, Notice> {
+        let position = wants_position(self.declared.place);
+        match read_station(alloc, &bytes, self.sought, position) {
+            Ok(obs) => placed(obs, &self.declared),
+            Err(error) => Err(Notice::of_station(error)),
         }
     }
 }

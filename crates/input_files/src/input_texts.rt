@@ -27,6 +27,7 @@ fn name_of_file_fault(number: u8) -> &'static str
         25 => "HeaderChange",
         26 => "NotAscii",
         27 => "TooMany",
+        43 => "NotRising",
         _ => name_of_header_fault(number),
     }
 }
@@ -127,6 +128,7 @@ pub fn push_input_fault(line: &mut Line, fault: &InputFault)
     match fault {
         InputFault::Obs(refusal) => push_file_fault(line, "obs", *refusal),
         InputFault::Nav(refusal) => push_file_fault(line, "nav", *refusal),
+        InputFault::Station(refusal) => push_file_fault(line, "station", *refusal),
         InputFault::Settings(refusal) => push_settings_fault(line, refusal),
     }
 }

@@ -1,17 +1,20 @@
-//! The three files of a receiver.
+//! The files of a receiver.
 
-ghost use Rattle.std.specs.Prelude.{◌≡◌, IfOk};
+ghost use Rattle.std.specs.Prelude.{◌≡◌, IfOk, None, is_some, option_map};
 ghost use Rattle.command_words.specs.Seen.{files_asked};
 ghost use Rattle.error_bounds.specs.Reading.{value_of_settings};
-ghost use Rattle.input_files.specs.Inputs.{AreEnough, ReadsFor, input_files, inputs_value};
-ghost use Rattle.input_files.specs.Inputs.{sought_of, message_of, wants_position};
+ghost use Rattle.input_files.specs.Inputs.{AreEnough, AreShort, ReadsFor, ReadsStation};
+ghost use Rattle.input_files.specs.Inputs.{input_files, inputs_value, message_of, sought_of};
+ghost use Rattle.input_files.specs.Inputs.{station_slot, station_value, wants_position};
 ghost use Rattle.input_files.specs.Motion.{HasMotion, speed_of};
 ghost use Rattle.input_files.specs.Reading.{Found, OnlyReads, valued};
+ghost use Rattle.input_files.specs.Suits.{station_misfit};
 
-use crate::input_grammars::{NavText, ObsText, SettingsText};
+use crate::input_grammars::{NavText, ObsText, SettingsText, StationText};
 use crate::limits::Limits;
 use crate::named::read_named;
 use crate::notice::Notice;
+use crate::station_file::StationFile;
 use command_words::Files;
 use error_bounds::{Centre, Settings};
 use gnss_model::Message;
@@ -20,15 +23,17 @@ use rinex_nav::Nav;
 use rinex_obs::{Obs, Sought};
 use std::alloc::Global;
 
-/// What is read from the files of a receiver, with the selected epochs.
+/// What is read from the files of a receiver, with the selected epochs, and from that of a station
+/// where one is named.
 #[derive(Drop)]
 pub struct Inputs {
     pub settings: Settings,
     pub nav: Nav,
+    pub station: Option<StationFile>,
     pub obs: Obs,
 }
 
-/// Whether the search box stands round the position of the header.
+/// Whether a place is the position of a header.
 pub fn wants_position(centre: Centre) -> bool
     ensures { result ≡ wants_position centre }
 {
@@ -58,9 +63,54 @@ pub fn message_of(settings: &Settings) -> Option<Message>
     }
 }
 
-/// Reads the settings, the navigation file and the observation file, each whole, and keeps of the
-/// epochs those that the words select. Each is accepted or refused before the next is begun. The
-/// settings of a receiver that moves are refused where they lack its greatest speed.
+/// Whether a file is named.
+fn is_named(name: Option<&str>) -> bool
+    ensures { result ≡ is_some (option_map (λ name. name.now) name.entry) }
+{
+    match name {
+        Some(_) => true,
+        None => false,
+    }
+}
+
+/// Reads the station's file where it is named, and with it a place declared.
+fn read_station_file<H: Shelf>(
+    alloc: Global,
+    limits: &Limits,
+    name: Option<&str>,
+    settings: &Settings,
+    shelf: &mut H,
+) -> Result<Option<StationFile>, Notice>
+    requires suits { station_misfit (is_some (option_map (λ name. name.now) name))
+        (value_of_settings settings.now).station ≡ None }
+    ensures found { Found (ReadsStation limits.now (sought_of (value_of_settings settings.now))
+        (option_map (λ name. name.now) name.entry) (value_of_settings settings.now).station)
+        (H.state shelf.old) (H.state shelf.new) (H.reliable shelf.new)
+        (valued (option_map station_value) result) }
+    ensures only { OnlyReads (station_slot (option_map (λ name. name.now) name.entry))
+        (H.state shelf.old) (H.state shelf.new) result }
+    ensures ages { IfOk result (AreShort settings.now.max_age) }
+{
+    let Some(name) = name else {
+        return Ok(None);
+    };
+    let Some(declared) = settings.station else {
+        unreachable!();
+    };
+    let sought = sought_of(settings);
+    let text = StationText {
+        sought: &sought,
+        declared,
+    };
+    let station = read_named(alloc, limits, name, &text, shelf)?;
+    Ok(Some(station))
+}
+
+/// Reads the settings, the navigation file, the station's file where it is named and the
+/// observation file, each whole, and keeps of the epochs those that the words select. Each is
+/// accepted or refused before the next is begun. Settings are refused that lack the greatest speed
+/// of a receiver that moves or the place of a station whose file is named, or have a place for no
+/// such file.
 pub fn read_inputs<H: Shelf>(
     alloc: Global,
     limits: &Limits,
@@ -76,13 +126,17 @@ pub fn read_inputs<H: Shelf>(
     ensures enough { IfOk result AreEnough }
     ensures motion { IfOk result (λ inputs. HasMotion moving (speed_of inputs.settings)) }
 {
-    let wanted = SettingsText { moving };
+    let wanted = SettingsText {
+        moving,
+        stationed: is_named(words.station),
+    };
     let settings = read_named(alloc, limits, words.settings, &wanted, shelf)?;
     let sought = sought_of(&settings);
     let text = NavText {
         galileo: message_of(&settings),
     };
     let nav = read_named(alloc, limits, words.nav, &text, shelf)?;
+    let station = read_station_file(alloc, limits, words.station, &settings, shelf)?;
     let position = wants_position(settings.centre);
     let text = ObsText {
         sought: &sought,
@@ -90,5 +144,10 @@ pub fn read_inputs<H: Shelf>(
         selection: words.selection,
     };
     let obs = read_named(alloc, limits, words.obs, &text, shelf)?;
-    Ok(Inputs { settings, nav, obs })
+    Ok(Inputs {
+        settings,
+        nav,
+        station,
+        obs,
+    })
 }

@@ -108,6 +108,16 @@ impl Notice {
         }
     }
 
+    /// Why the station's file wasn't read.
+    pub fn of_station(error: ReadError) -> Notice
+        ensures { result ≡ notice_of_file (λ refusal. InputFault.Station refusal) error }
+    {
+        match error {
+            ReadError::Refused(refusal) => Notice::BadInput(InputFault::Station(refusal)),
+            ReadError::NoMemory => Notice::NoMemory,
+        }
+    }
+
     /// Why the observation file wasn't read.
     pub fn of_obs(error: ReadError) -> Notice
         ensures { result ≡ notice_of_file (λ refusal. InputFault.Obs refusal) error }

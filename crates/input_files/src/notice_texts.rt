@@ -21,6 +21,7 @@ fn role_of(role: Role) -> &'static str
         Role::Settings => "settings",
         Role::Nav => "nav",
         Role::Obs => "obs",
+        Role::Station => "station",
         Role::Rows => "rows",
         Role::Zones => "zones",
         Role::Log => "log",

@@ -11,6 +11,7 @@ pub enum Role {
     Settings,
     Nav,
     Obs,
+    Station,
     Rows,
     /// Zones, which are never read beside rows and go through their slot.
     Zones,
@@ -26,6 +27,7 @@ impl Role {
             Role::Settings => Slot::Settings,
             Role::Nav => Slot::Nav,
             Role::Obs => Slot::Obs,
+            Role::Station => Slot::Station,
             Role::Rows | Role::Zones => Slot::Rows,
             Role::Log => Slot::Log,
         }

@@ -81,7 +81,7 @@ optional_are (suc n) le = (count_word 20 (suc n) (lit< tt) le, tt)
 
 skip_are : (s : Skip) → SkipFits s → AreWords (skip_words s)
 skip_are s (inl (inl few, none)) = (count_word 5 s.number (lit< tt) few.1, optional_are s.field (omega (arith, none)))
-skip_are s (inl (inr seven, none)) = (count_word 7 s.number (lit< tt) (omega (arith, seven)), optional_are s.field (omega (arith, none)))
+skip_are s (inl (inr more, none)) = (count_word 9 s.number (lit< tt) more.1, optional_are s.field (omega (arith, none)))
 skip_are s (inr field) = (count_word 6 s.number (lit< tt) (omega (arith, field.0)), optional_are s.field field.1.1)
 
 entry_are : (e : SatEntry) → EntryFits e → AreWords (entry_words e)

@@ -161,9 +161,9 @@ optional_from zero (suc n) f g e = cc
 optional_from (suc m) zero f g e = cc
 optional_from (suc m) (suc n) f g e = count_same 20 (suc m) (suc n) (lit< tt) f g (at_index 0 _ _ e)
 
-skip_bounds : (s : Skip) → SkipFits s → (s.number ≤ 7) × (s.field ≤ 20)
+skip_bounds : (s : Skip) → SkipFits s → (s.number ≤ 9) × (s.field ≤ 20)
 skip_bounds s (inl (inl few, none)) = (omega (arith, few.1), omega (arith, none))
-skip_bounds s (inl (inr seven, none)) = (omega (arith, seven), omega (arith, none))
+skip_bounds s (inl (inr more, none)) = (more.1, omega (arith, none))
 skip_bounds s (inr field) = (omega (arith, field.0), field.1.1)
 
 skip_from : (a b : Skip) → SkipFits a → SkipFits b → skip_words a ≡ skip_words b → a ≡ b
@@ -171,7 +171,7 @@ skip_from a b f g e =
     let x = skip_bounds a f in
     let y = skip_bounds b g in
     let rest : optional_words a.field ≡ optional_words b.field = cc in
-    same_skip a b (count_same 7 a.number b.number (lit< tt) x.0 y.0 (at_index 0 _ _ e)) (optional_from a.field b.field x.1 y.1 rest)
+    same_skip a b (count_same 9 a.number b.number (lit< tt) x.0 y.0 (at_index 0 _ _ e)) (optional_from a.field b.field x.1 y.1 rest)
 
 entry_from : (a b : SatEntry) → EntryFits a → EntryFits b → entry_name a ≡ entry_name b
     → entry_words a ≡ entry_words b → a ≡ b

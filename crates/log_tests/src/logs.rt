@@ -72,10 +72,12 @@ const EDGE: &str = "edge 0 -1400000 1400000";
 
 /// Texts in place of one in the log, and where its first fault is then, by line and kind; or twice
 /// 0.
-const CHANGES: [(&str, &str, u32, u8); 55] = [
+const CHANGES: [(&str, &str, u32, u8); 57] = [
     ("done 0", "done 0", 0, 0),
     (EDGE, "out 0\nin 0 0 -1 1\nsplit 400000 2", 0, 0),
     ("sat G01", "skip G01 6 20\nsat G01", 0, 0),
+    ("sat G01", "skip G01 8\nsat G01", 0, 0),
+    ("sat G01", "skip G01 9\nsat G01", 0, 0),
     ("gpscover 1", "gpscover 3", 0, 0),
     ("gpscover 1", "gpscover 2", 0, 0),
     ("gpscover 1", "gpscover 4", 1, 1),
@@ -100,7 +102,7 @@ const CHANGES: [(&str, &str, u32, u8); 55] = [
     ("500000\n", "500000 -500001 400000\n", 4, 3),
     ("500000\n", "500000 -400000 500001\n", 4, 3),
     ("500000\n", "500000 -400000\n", 4, 3),
-    ("sat G01", "skip G01 8\nsat G01", 4, 3),
+    ("sat G01", "skip G01 10\nsat G01", 4, 3),
     ("sat G01", "skip G01 7 1\nsat G01", 4, 3),
     ("sat G01", "skip G01 6\nsat G01", 4, 3),
     ("sat G01", "skip G01 6 21\nsat G01", 4, 3),

@@ -1,5 +1,5 @@
 use epoch_rows::ObsBlocks;
-use epoch_selection::{LAST_EPOCH, Selection};
+use epoch_selection::{LAST_EPOCH, Searches, Selection};
 use error_bounds::read_settings;
 use gnss_model::{Sat, Signal, Skip};
 use grid_model::{Box3, Pos};
@@ -124,16 +124,12 @@ fn blocks_of(alloc: Global, selection: Selection) -> Result<Vec<LogEpoch>, Fail>
         nav: &nav,
         settings: &settings,
     };
-    let root = settings.root(Some(ORIGIN));
-    let mut left = ObsBlocks::of_file(
-        alloc,
-        &source,
-        &obs,
+    let searches = Searches {
+        left: &obs.epochs,
         selection,
-        &root,
-        &settings.rules,
-        settings.renew,
-    );
+        root: settings.root(Some(ORIGIN)),
+    };
+    let mut left = ObsBlocks::of_walk(alloc, &source, searches, &settings.rules, settings.renew);
     let mut blocks = Vec::new(alloc);
     for _ in 0..3 {
         match left.next(alloc, None) {

@@ -71,7 +71,10 @@ fn satellites_and_why_one_is_skipped(rt: HostRuntime) -> Result<(), Fail> {
         ("6 1 1", None),
         ("7", Some((7, 0))),
         ("7 1", None),
-        ("8", None),
+        ("8", Some((8, 0))),
+        ("9", Some((9, 0))),
+        ("9 1", None),
+        ("10", None),
     ] {
         let read = skip(Some(line.as_bytes()));
         assert_eq!(rt;

@@ -55,9 +55,9 @@ optional_words (suc n) = decimal (suc n) ∷ []
 abbrev pub skip_words : Skip → List (List ℕ)
 skip_words s = decimal s.number ∷ optional_words s.field
 
--- one of the tests 1 to 5, or test 7: no field is told of these
+-- one of the tests 1 to 5, or 7 to 9: no field is told of these
 abbrev pub IsPlainTest : ℕ → Type 0
-IsPlainTest n = IsCountFromTo 1 5 n ⊎ (n ≡ 7)
+IsPlainTest n = IsCountFromTo 1 5 n ⊎ IsCountFromTo 7 9 n
 
 -- one of them alone, or test 6 with one of the fields 1 to 20
 abbrev pub SkipFits : Skip → Type 0

@@ -81,12 +81,12 @@ pub fn satellite(rest: Rest<'_>) -> Option<(Sat, Rest<'_>)>
     Some((Sat { system, number }, rest))
 }
 
-/// The number of one of the tests 1 to 5, or 7, which have no field.
+/// The number of one of the tests 1 to 5, or 7 to 9, which have no field.
 fn plain_skip(rest: Rest<'_>) -> Option<Skip>
     ensures { Reads (λ skip. IsPlainTest skip.number
         × (skip.field ≡ 0)) skip_words (words_left rest.entry) result }
 {
-    let (number, rest) = count(rest, 1, 7)?;
+    let (number, rest) = count(rest, 1, 9)?;
     if number == 6 {
         return None;
     }

@@ -177,7 +177,7 @@ flag_is hour minute second count = refl
 
 head_read : (before hour minute second count : ℕ) → hour ≤ 23 → minute ≤ 59 → second ≤ 59
     → count ≤ 64 → before < 200000
-    → head_line before (plain (head_text hour minute second count)) (Ok (head.Epoch (tag_of hour minute second) count))
+    → head_line before None (plain (head_text hour minute second count)) (Ok (head.Epoch (tag_of hour minute second) count))
 head_read before hour minute second count h m s few room =
     let cell = head_cell hour minute second count s (omega (arith, few)) in
     let flag = flag_is hour minute second count in
@@ -202,16 +202,16 @@ head_read before hour minute second count h m s few room =
 -- ---- epochs
 
 passed : (sats : List SatCode) (more : List (List ℕ)) (epochs : List Observed) (answer : Result (List Observed) Refusal)
-    → ((n : ℕ) → epochs_from wanted epochs n 0 (map plain more) answer)
+    → ((n : ℕ) → epochs_from false wanted epochs n 0 (map plain more) answer)
     → (number : ℕ)
-    → epochs_from wanted epochs number (length sats) (map plain (satellite_lines sats more)) answer
+    → epochs_from false wanted epochs number (length sats) (map plain (satellite_lines sats more)) answer
 passed [] more epochs answer later number = later number
 passed (seen ∷ sats) more epochs answer later number = passed sats more epochs answer later (number + 1)
 
 epochs_read : (before : List Observed) (epochs : List EpochCodes) → AreEpochs epochs
     → length before + length epochs ≤ 200000
     → (number : ℕ)
-    → epochs_from wanted before number 0 (map plain (epoch_lines epochs)) (Ok (before ++ observed_from (length before + 1) epochs))
+    → epochs_from false wanted before number 0 (map plain (epoch_lines epochs)) (Ok (before ++ observed_from (length before + 1) epochs))
 unfolding tag_of
 epochs_read before [] are room number = ap Ok (append-nil before)
 epochs_read before (epoch ∷ epochs) are room number =
@@ -230,7 +230,7 @@ epochs_read before (epoch ∷ epochs) are room number =
         block,
         inl (map sat_of epoch.sats.items, satellites_read 1 (number + 1) [] epoch.sats.items more (omega arith) tt is.sats (omega (arith, is.few)), refl),
         passed epoch.sats.items more (before ++ seen ∷ []) (Ok (before ++ seen ∷ observed_from (length before + 1 + 1) epochs))
-            (λ n. subst (λ (l : List Observed). epochs_from wanted (before ++ seen ∷ []) n 0 (map plain more) (Ok l)) whole (later n)) (number + 1),
+            (λ n. subst (λ (l : List Observed). epochs_from false wanted (before ++ seen ∷ []) n 0 (map plain more) (Ok l)) whole (later n)) (number + 1),
       ),
     )
 
@@ -366,7 +366,7 @@ obs_read epochs are few =
         header_read body,
         inl (
           observed_from 1 epochs,
-          subst (λ (ls : List TextLine). epochs_from wanted [] 5 0 ls (Ok (observed_from 1 epochs))) (sym all) (epochs_read [] epochs are (omega (arith, few)) 5),
+          subst (λ (ls : List TextLine). epochs_from false wanted [] 5 0 ls (Ok (observed_from 1 epochs))) (sym all) (epochs_read [] epochs are (omega (arith, few)) 5),
           refl,
         ),
       ),

@@ -67,6 +67,7 @@ settings_of x y z = record {
   vertical = None;
   galileo = None;
   speed = None;
+  station = None;
 }
 
 abbrev pub AreNear : ℤ → ℤ → ℤ → Type 0

@@ -33,6 +33,7 @@ impl<R: Files> FileShelf<R> {
                 settings: None,
                 nav: None,
                 obs: None,
+                station: None,
                 rows: None,
                 log: None,
             },

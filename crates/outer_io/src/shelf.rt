@@ -1,4 +1,4 @@
-//! A shelf of named files, which are read and written through five slots.
+//! A shelf of named files, which are read and written through six slots.
 
 ghost use Rattle.std.specs.Prelude.{◌≡◌, ◌≤◌, ◌<◌, ℕ, List, length, Option, is_some, is_ok, IfOk};
 ghost use Rattle.std.specs.Prelude.{true, false, if◌then◌else◌};

@@ -1,4 +1,4 @@
-//! The five places through which a shelf's files are read and written.
+//! The six places through which a shelf's files are read and written.
 
 ghost use Rattle.std.specs.Prelude.{◌≡◌};
 
@@ -8,6 +8,7 @@ pub enum Slot {
     Settings,
     Nav,
     Obs,
+    Station,
     Rows,
     Log,
 }
@@ -18,6 +19,7 @@ pub struct Slots<T> {
     pub settings: T,
     pub nav: T,
     pub obs: T,
+    pub station: T,
     pub rows: T,
     pub log: T,
 }
@@ -33,6 +35,7 @@ impl<T: Copy> Slots<T> {
             settings: value,
             nav: value,
             obs: value,
+            station: value,
             rows: value,
             log: value,
         }
@@ -50,6 +53,7 @@ impl<T> Slots<T> {
             Slot::Settings => &self.settings,
             Slot::Nav => &self.nav,
             Slot::Obs => &self.obs,
+            Slot::Station => &self.station,
             Slot::Rows => &self.rows,
             Slot::Log => &self.log,
         }
@@ -67,6 +71,7 @@ impl<T: Drop> Slots<T> {
             Slot::Settings => self.settings = value,
             Slot::Nav => self.nav = value,
             Slot::Obs => self.obs = value,
+            Slot::Station => self.station = value,
             Slot::Rows => self.rows = value,
             Slot::Log => self.log = value,
         }
@@ -80,6 +85,7 @@ impl<T> Slots<Option<T>> {
             Slot::Settings => self.settings.as_mut(),
             Slot::Nav => self.nav.as_mut(),
             Slot::Obs => self.obs.as_mut(),
+            Slot::Station => self.station.as_mut(),
             Slot::Rows => self.rows.as_mut(),
             Slot::Log => self.log.as_mut(),
         }

@@ -84,7 +84,7 @@ pub(crate) fn events_fault(
         if let Some(fault) = take_steps(next, count, rules, &mut test, &mut live, &mut ahead)? {
             return Ok(Some(fault));
         }
-        if let Some(fault) = given.renewal_fault(next + count, &live, renewal) {
+        if let Some(fault) = given.renewal_fault(next + count, &mut live, renewal) {
             return Ok(Some(fault));
         }
         next += count + 1 + renewal.rows.len() as u32;

@@ -69,16 +69,17 @@ impl<'a> RenewalTest<'a> {
     }
 
     /// The first line of a renewal that fails a test where these boxes are live, and the least one,
-    /// where `line` is the number of its first line.
-    pub(crate) fn renewal_fault(&self, line: u32, live: &Live, new: &Renewal) -> Option<Fault>
+    /// where `line` is the number of its first line. The boxes stay as they are.
+    pub(crate) fn renewal_fault(&self, line: u32, live: &mut Live, new: &Renewal) -> Option<Fault>
         requires ready { AreReady self.now.delays (grid_box self.now.root.now) self.now.bases.now }
         requires numbered { line + length new.now.rows.items < 2 ^ 32 }
-        ensures { MatchOption result
+        ensures found { MatchOption result
             (RenewalHolds self.now.delays (grid_box self.now.root.now) self.now.firsts.now
-            self.now.bases.now (live_value live.now) (new_rows new.now))
+            self.now.bases.now (live_value live.old) (new_rows new.now))
             (λ fault. (k : ℕ) × RenewalBreaks self.now.delays (grid_box self.now.root.now)
-            self.now.firsts.now self.now.bases.now (live_value live.now) (new_rows new.now) k fault
+            self.now.firsts.now self.now.bases.now (live_value live.old) (new_rows new.now) k fault
             × (fault.line ≡ line + k)) }
+        ensures same { live_value live.new ≡ live_value live.old }
     {
         if !live.may_renew(self.root, &new.part) {
             return Some(plain_fault(line, BAD_RENEWAL));

@@ -35,6 +35,7 @@ fn answer(rt: &HostRuntime, case: &str) -> io::Result<()> {
         "records" => records::print(rt, words, fields),
         "ephemeris" => ephemerides::print(rt, words, fields),
         "settings" => settings::print(rt, fields),
+        "station" => settings::print_station(rt, fields),
         "header" => texts::print_header(rt, fields),
         "lines" => texts::print_lines(rt, fields),
         "columns" => texts::print_columns(rt, words, fields),

@@ -3,7 +3,7 @@
 use crate::fields::Fields;
 use crate::inputs::file;
 use gnss_model::Signal;
-use rinex_obs::{Sought, read_obs, read_obs_between, read_obs_both};
+use rinex_obs::{Sought, read_obs, read_obs_between, read_obs_both, read_station};
 use std::io::{self, ErrorKind};
 
 const SINGLE: Signal = Signal::Single { code: *b"C1C" };
@@ -20,7 +20,7 @@ const GALILEO: Signal = Signal::Dual {
 
 /// Prints the observations of a file: of GPS satellites by `single`, C1C, or `dual`, C1C and C2W; by
 /// `both` also those of Galileo satellites, C1X and C5X; by `position` C1C and the position of the
-/// header; by `between FROM TO` C1C of the epochs with these numbers.
+/// header; by `between FROM TO` C1C of the epochs with these numbers; by `station` C1C of a station.
 pub fn print(rt: &HostRuntime, words: Fields<'_>, fields: Fields<'_>) -> io::Result<()> {
     let mut words = words;
     let alloc = rt.alloc();
@@ -42,6 +42,10 @@ pub fn print(rt: &HostRuntime, words: Fields<'_>, fields: Fields<'_>) -> io::Res
                 "{:?}",
                 read_obs_between(alloc, &bytes, &sought, false, from, to)
             )
+        }
+        "station" => {
+            let sought = Sought::alone(SINGLE);
+            println!(rt; "{:?}", read_station(alloc, &bytes, &sought, false))
         }
         _ => Err(ErrorKind::InvalidInput.into()),
     }

@@ -18,10 +18,23 @@ const HEADER: Pos = Pos {
 pub fn print(rt: &HostRuntime, fields: Fields<'_>) -> io::Result<()> {
     match read_settings(rt.alloc(), &file(rt, fields)?) {
         Ok(settings) => print_settings(rt, &settings),
-        Err(SettingsError::Refused(fault)) => {
-            println!(rt; "{} {}", fault.number, fault.key.as_str())
-        }
-        Err(SettingsError::NoMemory) => println!(rt; "no memory"),
+        Err(error) => print_error(rt, &error),
+    }
+}
+
+/// Prints what the settings of a file say of a station, or their first fault.
+pub fn print_station(rt: &HostRuntime, fields: Fields<'_>) -> io::Result<()> {
+    match read_settings(rt.alloc(), &file(rt, fields)?) {
+        Ok(settings) => println!(rt; "{:?}", settings.station),
+        Err(error) => print_error(rt, &error),
+    }
+}
+
+/// Prints the number and the key of a fault.
+fn print_error(rt: &HostRuntime, error: &SettingsError) -> io::Result<()> {
+    match error {
+        SettingsError::Refused(fault) => { println!(rt; "{} {}", fault.number, fault.key.as_str()) }
+        SettingsError::NoMemory => println!(rt; "no memory"),
     }
 }
 

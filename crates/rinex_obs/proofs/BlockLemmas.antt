@@ -1,5 +1,5 @@
 -- The epochs of a body, one behind another.
-use Rattle.std.proofs.Common.{◌≡◌, ℕ, zero, suc, ◌+◌, ◌≤◌, ◌<◌, List, [], ◌∷◌, ◌++◌, length, drop, true, false, arith, refl, sym, ◌∙◌, ap, subst, inl, inr, Option, None, Some, Result, Ok, Err}
+use Rattle.std.proofs.Common.{◌≡◌, ℕ, zero, suc, ◌+◌, ◌≤◌, ◌<◌, List, [], ◌∷◌, ◌++◌, length, drop, Bool, true, false, arith, refl, sym, ◌∙◌, ap, subst, inl, inr, Option, None, Some, Result, Ok, Err}
 use Rattle.std.specs.Prelude.{ℤ, pos, ◌≤ℤ◌, ◌<ℤ◌}
 use Rattle.std.specs.List.{filter}
 use Rattle.std.proofs.lemmas.List.{append-nil}
@@ -12,7 +12,7 @@ use Rattle.rinex_text.specs.Lines.{TextLine}
 use Rattle.rinex_text.specs.declared.fault.Fault.{Fault}
 use Rattle.rinex_text.specs.declared.fault.Refusal.{Refusal}
 use Rattle.rinex_obs.specs.Header.{Wanted}
-use Rattle.rinex_obs.specs.Epochs.{Observed, Block, head_line, block_from, epochs_from}
+use Rattle.rinex_obs.specs.Epochs.{Observed, Block, head_line, block_from, last_time, time_before, epochs_from}
 use Rattle.rinex_obs.specs.Files.{is_between}
 use Rattle.rinex_obs.specs.Reading.{IsHeadBehind, block_of, plain_epoch, plain_epochs}
 use Rattle.rinex_obs.specs.declared.head.Head.{Head}
@@ -33,36 +33,36 @@ pub epoch_is : (index : ℕ) (tag other : ℤ) (sats : List SatObs) (lines : ℕ
 epoch_is index tag other sats lines e = rw e refl
 
 -- the lines of what was read are passed over
-skipped : (k n : ℕ) (wanted : Wanted) (epochs : List Observed) (lines : List TextLine) (answer : Result (List Observed) Refusal)
+skipped : (k n : ℕ) (rising : Bool) (wanted : Wanted) (epochs : List Observed) (lines : List TextLine) (answer : Result (List Observed) Refusal)
     → k ≤ length lines
-    → epochs_from wanted epochs (n + k) 0 (drop k lines) answer
-    → epochs_from wanted epochs n k lines answer
-skipped zero n wanted epochs lines answer enough h = let same : n + 0 ≡ n = omega arith in (rw same at h)
-skipped (suc k) n wanted epochs [] answer enough h = absurd (omega arith)
-skipped (suc k) n wanted epochs (line ∷ lines) answer enough h =
+    → epochs_from rising wanted epochs (n + k) 0 (drop k lines) answer
+    → epochs_from rising wanted epochs n k lines answer
+skipped zero n rising wanted epochs lines answer enough h = let same : n + 0 ≡ n = omega arith in (rw same at h)
+skipped (suc k) n rising wanted epochs [] answer enough h = absurd (omega arith)
+skipped (suc k) n rising wanted epochs (line ∷ lines) answer enough h =
     let same : n + suc k ≡ n + 1 + k = omega arith in
-    skipped k (n + 1) wanted epochs lines answer (omega arith) (rw same at h)
+    skipped k (n + 1) rising wanted epochs lines answer (omega arith) (rw same at h)
 
-module _ (wanted : Wanted) (epochs : List Observed) (count n number : ℕ) (lines more : List TextLine) (line : TextLine) (l : lines ≡ line ∷ more) (e : count ≡ length epochs) (next : number ≡ n + 1) where
-  pub head_fault : (f : Fault) → head_line count line (Err f)
-      → epochs_from wanted epochs n 0 lines (Err (refusal f n))
-  head_fault f is = rw l (inr (f, (rw e at is), refl))
+module _ (rising : Bool) (wanted : Wanted) (epochs : List Observed) (count n number : ℕ) (before : Option ℤ) (lines more : List TextLine) (line : TextLine) (l : lines ≡ line ∷ more) (e : count ≡ length epochs) (o : before ≡ time_before rising epochs) (next : number ≡ n + 1) where
+  pub head_fault : (f : Fault) → head_line count before line (Err f)
+      → epochs_from rising wanted epochs n 0 lines (Err (refusal f n))
+  head_fault f is = rw l (inr (f, (rw (e, o) at is), refl))
 
-  module _ (head : Head) (is : head_line count line (Ok head)) where
+  module _ (head : Head) (is : head_line count before line (Ok head)) where
     pub block_fault : (refused : Refusal)
         → block_from wanted count head (record { number = number; lines = more }) (Err refused)
-        → epochs_from wanted epochs n 0 lines (Err refused)
-    block_fault refused from = rw l (inl (head, (rw e at is), inr (refused, (rw (e, next) at from), refl)))
+        → epochs_from rising wanted epochs n 0 lines (Err refused)
+    block_fault refused from = rw l (inl (head, (rw (e, o) at is), inr (refused, (rw (e, next) at from), refl)))
 
     pub block_step : (block : Block) (behind m : ℕ) (after : List TextLine) (answer : Result (List Observed) Refusal)
         → block_from wanted count head (record { number = number; lines = more }) (Ok block)
         → block.lines ≡ behind → behind ≤ length more → m ≡ number + behind
         → after ≡ drop behind more
-        → epochs_from wanted (epochs ++ block.epochs) m 0 after answer
-        → epochs_from wanted epochs n 0 lines answer
+        → epochs_from rising wanted (epochs ++ block.epochs) m 0 after answer
+        → epochs_from rising wanted epochs n 0 lines answer
     block_step block behind m after answer from same enough place there h =
         let ends : m ≡ n + 1 + behind = omega arith in
-        rw l (inl (head, (rw e at is), inl (block, (rw (e, next) at from), rw same (skipped behind (n + 1) wanted (epochs ++ block.epochs) more answer enough (rw (ends, there) at h)))))
+        rw l (inl (head, (rw (e, o) at is), inl (block, (rw (e, next) at from), rw same (skipped behind (n + 1) rising wanted (epochs ++ block.epochs) more answer enough (rw (ends, there) at h)))))
 
 map_more : (epochs : List ObsEpoch) (epoch : ObsEpoch)
     → plain_epochs (epochs ++ epoch ∷ []) ≡ plain_epochs epochs ++ plain_epoch epoch ∷ []
@@ -121,11 +121,22 @@ pub one_longer : (all : List Observed) (epoch : Observed) → length (all ++ epo
 one_longer [] epoch = refl
 one_longer (first ∷ all) epoch = omega (arith, one_longer all epoch)
 
+last_is : (before : Option ℤ) (all : List Observed) (epoch : Observed)
+    → last_time before (all ++ epoch ∷ []) ≡ Some epoch.tag
+last_is before [] epoch = refl
+last_is before (first ∷ all) epoch = last_is (Some first.tag) all epoch
+
+-- behind one more epoch its time is the one before
+pub time_behind : (rising : Bool) (all : List Observed) (epoch : Observed)
+    → time_before rising (epoch ∷ []) ≡ time_before rising (all ++ epoch ∷ [])
+time_behind false all epoch = refl
+time_behind true all epoch = sym (last_is None all epoch)
+
 pub lines_of_block : (found : Option ObsEpoch) (lines : ℕ) → (block_of found lines).lines ≡ lines
 lines_of_block None lines = refl
 lines_of_block (Some epoch) lines = refl
 
-pub in_body : (wanted : Wanted) (n m : ℕ) (lines others : List TextLine) (answer : Result (List Observed) Refusal)
-    → n ≡ m → lines ≡ others → epochs_from wanted [] n 0 lines answer
-    → epochs_from wanted [] m 0 others answer
-in_body wanted n m lines others answer e f h = rw (e, f) at h
+pub in_body : (rising : Bool) (wanted : Wanted) (n m : ℕ) (lines others : List TextLine) (answer : Result (List Observed) Refusal)
+    → n ≡ m → lines ≡ others → epochs_from rising wanted [] n 0 lines answer
+    → epochs_from rising wanted [] m 0 others answer
+in_body rising wanted n m lines others answer e f h = rw (e, f) at h

@@ -1,5 +1,6 @@
 -- The numbers and the satellites of the epochs that are read.
 use Rattle.std.proofs.Common.{◌≡◌, ℕ, zero, suc, ◌+◌, ◌<◌, Bool, false, List, [], ◌∷◌, ◌++◌, length, refl, ap, sym, subst, inl, inr, arith, Option, None, Some, is_some, Result, Ok, Err, IfOk}
+use Rattle.std.specs.Prelude.{ℤ}
 use Rattle.std.specs.List.{AllByRecursion, list_any}
 use Rattle.std.proofs.lemmas.Grind.{common_steps}
 use Rattle.std.proofs.lemmas.List.{append-nil, length-append}
@@ -18,9 +19,9 @@ use Rattle.gnss_model.specs.declared.satellites.Signal.{Signal}
 use Rattle.rinex_obs.specs.declared.sought.Sought.{Sought}
 use Rattle.rinex_obs.specs.Types.{Code, IsRead}
 use Rattle.rinex_obs.specs.Header.{CodePlaces, MayBePlaces, Wanted, have_both, AreWanted, are_both, Header, header_line, header_end, header_lines, Start}
-use Rattle.rinex_obs.specs.Epochs.{Observed, Block, head_line, ArePlacesOf, has_sat, sat_on, satellite_line, satellites_from, event_from, block_from, epochs_from}
+use Rattle.rinex_obs.specs.Epochs.{Observed, Block, in_order, head_line, ArePlacesOf, has_sat, sat_on, satellite_line, satellites_from, event_from, block_from, time_before, epochs_from}
 use Rattle.rinex_obs.specs.Facts.{AreNumberedFrom, AreNumbered, IsSatOf, AreSatsOf, AreDistinct, InEach}
-use Rattle.rinex_obs.specs.Files.{Observations, unread, IsObsFileOf}
+use Rattle.rinex_obs.specs.Files.{Observations, unread, IsObsFileBy}
 use Rattle.rinex_obs.specs.Reading.{observations_of}
 use Rattle.rinex_obs.specs.declared.head.Head.{Head}
 use Rattle.rinex_obs.specs.declared.head.Head.TheVariants.{Epoch, Event}
@@ -144,11 +145,18 @@ abbrev IsOneMore : ℕ → Head → Type 0
 IsOneMore count (Epoch tag lines) = count < 200000
 IsOneMore count (Event labelled lines) = Unit {0}
 
-on_head : (count : ℕ) (line : TextLine) → Give (IsOneMore count) (head_line count line)
-on_head count line =
+-- what holds of an epoch holds of it where its time is in order
+pub on_order : (Meets : Head → Type 0) (before : Option ℤ) (tag : ℤ) (lines : ℕ)
+    → Meets (Epoch tag lines) → Give Meets (in_order before tag lines)
+on_order Meets None tag lines is = given Meets (Epoch tag lines) is
+on_order Meets (Some before) tag lines is = on_test Meets _ _ _ (λ later. given Meets (Epoch tag lines) is)
+
+on_head : (count : ℕ) (before : Option ℤ) (line : TextLine)
+    → Give (IsOneMore count) (head_line count before line)
+on_head count before line =
     on_test (IsOneMore count) _ _ _ (λ short. on_test (IsOneMore count) _ _ _ (λ ascii. on_test (IsOneMore count) _ _ _ (λ mark. on_test (IsOneMore count) _ _ _ (λ flag.
     on_read (IsOneMore count) _ _ _ (λ lines is. on_where (IsOneMore count) _ _ _
-    (λ epoch. on_read (IsOneMore count) _ _ _ (λ tag time. on_test (IsOneMore count) _ _ _ (λ few. given (IsOneMore count) (Epoch tag lines) few)))
+    (λ epoch. on_read (IsOneMore count) _ _ _ (λ tag time. on_test (IsOneMore count) _ _ _ (λ few. on_order (IsOneMore count) before tag lines few)))
     (given (IsOneMore count) (Event _ lines) tt))))))
 
 numbered_more : (next : ℕ) (epochs : List Observed) (epoch : Observed) → AreNumberedFrom next epochs
@@ -175,14 +183,14 @@ on_block wanted epochs (Event labelled lines) from few are =
     let Meets : Block → Type 0 = λ block. AreEpochs (have_both wanted) (epochs ++ block.epochs) in
     on_then Meets (event_from (have_both wanted) labelled lines from) _ (λ none l. given Meets _ (rw append-nil are))
 
-on_epochs : (wanted : Wanted) (epochs : List Observed) (number skip : ℕ) (lines : List TextLine)
+on_epochs : (rising : Bool) (wanted : Wanted) (epochs : List Observed) (number skip : ℕ) (lines : List TextLine)
     → AreEpochs (have_both wanted) epochs
-    → Give (AreEpochs (have_both wanted)) (epochs_from wanted epochs number skip lines)
-on_epochs wanted epochs number skip [] are = given (AreEpochs (have_both wanted)) epochs are
-on_epochs wanted epochs number (suc skip) (line ∷ more) are = on_epochs wanted epochs (number + 1) skip more are
-on_epochs wanted epochs number zero (line ∷ more) are =
-    on_line (AreEpochs (have_both wanted)) (head_line (length epochs) line) number _ (λ head is. on_then (AreEpochs (have_both wanted)) (block_from wanted (length epochs) head (record { number = number + 1; lines = more })) _ (λ block l.
-    on_epochs wanted (epochs ++ block.epochs) (number + 1) block.lines more (on_block wanted epochs head (record { number = number + 1; lines = more }) (on_head (length epochs) line (Ok head) is) are (Ok block) l)))
+    → Give (AreEpochs (have_both wanted)) (epochs_from rising wanted epochs number skip lines)
+on_epochs rising wanted epochs number skip [] are = given (AreEpochs (have_both wanted)) epochs are
+on_epochs rising wanted epochs number (suc skip) (line ∷ more) are = on_epochs rising wanted epochs (number + 1) skip more are
+on_epochs rising wanted epochs number zero (line ∷ more) are =
+    on_line (AreEpochs (have_both wanted)) (head_line (length epochs) (time_before rising epochs) line) number _ (λ head is. on_then (AreEpochs (have_both wanted)) (block_from wanted (length epochs) head (record { number = number + 1; lines = more })) _ (λ block l.
+    on_epochs rising wanted (epochs ++ block.epochs) (number + 1) block.lines more (on_block wanted epochs head (record { number = number + 1; lines = more }) (on_head (length epochs) (time_before rising epochs) line (Ok head) is) are (Ok block) l)))
 
 -- ---- both systems
 
@@ -213,33 +221,33 @@ on_header sought position header number (line ∷ more) =
 
 -- ---- files
 
-pub on_file : (sought : Sought) (position : Bool) (text : List ℕ) (observations : Observations)
-    → IsObsFileOf sought position text observations
+pub on_file : (rising : Bool) (sought : Sought) (position : Bool) (text : List ℕ) (observations : Observations)
+    → IsObsFileBy rising sought position text observations
     → AreEpochs (are_both sought) observations.epochs
-on_file sought position text observations file =
+on_file rising sought position text observations file =
     let Meets : Observations → Type 0 = λ observations. AreEpochs (are_both sought) observations.epochs in
     on_then Meets (version_by (are_both sought) 79 (lines_of text)) _ (λ version v. on_then Meets (header_lines sought position unread version.number version.lines) _ (λ start s.
-    on_then Meets (epochs_from start.wanted [] start.behind.number 0 (counted start.behind.lines)) _ (λ epochs e.
+    on_then Meets (epochs_from rising start.wanted [] start.behind.number 0 (counted start.behind.lines)) _ (λ epochs e.
     let none : AreEpochs (have_both start.wanted) [] = record { numbered = record { in_order = tt; at_most = omega arith }; named = tt; distinct = tt } in
-    let are = on_epochs start.wanted [] start.behind.number 0 (counted start.behind.lines) none (Ok epochs) e in
+    let are = on_epochs rising start.wanted [] start.behind.number 0 (counted start.behind.lines) none (Ok epochs) e in
     given Meets (record { position = start.position; epochs = epochs })
     (subst (λ (both : Bool). AreEpochs both epochs) (on_header sought position unread version.number version.lines (Ok start) s) are)))) (Ok observations) file
 
-module _ (sought : Sought) (position : Bool) (text : List ℕ) where
+module _ (rising : Bool) (sought : Sought) (position : Bool) (text : List ℕ) where
   pub numbered_read : (read : Result Obs ReadError)
-      → IfOk read (λ obs. IsObsFileOf sought position text (observations_of obs))
+      → IfOk read (λ obs. IsObsFileBy rising sought position text (observations_of obs))
       → IfOk read (λ obs. AreNumbered (observations_of obs).epochs)
-  numbered_read (Ok obs) file = (on_file sought position text (observations_of obs) file).numbered
+  numbered_read (Ok obs) file = (on_file rising sought position text (observations_of obs) file).numbered
   numbered_read (Err e) file = tt
 
   pub distinct_read : (read : Result Obs ReadError)
-      → IfOk read (λ obs. IsObsFileOf sought position text (observations_of obs))
+      → IfOk read (λ obs. IsObsFileBy rising sought position text (observations_of obs))
       → IfOk read (λ obs. InEach AreDistinct (observations_of obs).epochs)
-  distinct_read (Ok obs) file = (on_file sought position text (observations_of obs) file).distinct
+  distinct_read (Ok obs) file = (on_file rising sought position text (observations_of obs) file).distinct
   distinct_read (Err e) file = tt
 
   pub named_read : (read : Result Obs ReadError)
-      → IfOk read (λ obs. IsObsFileOf sought position text (observations_of obs))
+      → IfOk read (λ obs. IsObsFileBy rising sought position text (observations_of obs))
       → IfOk read (λ obs. InEach (AreSatsOf (are_both sought)) (observations_of obs).epochs)
-  named_read (Ok obs) file = (on_file sought position text (observations_of obs) file).named
+  named_read (Ok obs) file = (on_file rising sought position text (observations_of obs) file).named
   named_read (Err e) file = tt

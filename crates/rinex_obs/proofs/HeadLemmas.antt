@@ -1,6 +1,6 @@
 -- The fields of the first line of an epoch.
 use Rattle.std.proofs.Common.{◌≡◌, ℕ, ◌≤◌, ◌<◌, ◌∙◌, Bool, true, false, List, sym, subst, refl, inl, inr, Option, None, Some, Result, Ok, Err}
-use Rattle.std.specs.Prelude.{ℤ, pos, neg_ℤ, ◌↔◌, nat_le, IfSome, IfNone}
+use Rattle.std.specs.Prelude.{ℤ, pos, neg_ℤ, ◌≤ℤ◌, ◌<ℤ◌, ◌↔◌, nat_le, IfOk, IfSome, IfNone}
 use Rattle.std.specs.List.{list_all}
 use Rattle.exact_decimal.specs.Counts.{IsCount}
 use Rattle.exact_decimal.specs.NumberFields.{is_blank, IsFixed}
@@ -14,9 +14,11 @@ use Rattle.rinex_text.specs.Headers.{IsShort}
 use Rattle.rinex_text.specs.Lines.{TextLine}
 use Rattle.rinex_text.specs.declared.fault.Fault.TheVariants as fault
 use Rattle.rinex_text.proofs.FieldLemmas.{same_count}
-use Rattle.rinex_obs.specs.Epochs.{IsSeconds, IsTag, flag_of, IsFlag, IsLineCount, head_line}
+use Rattle.rinex_obs.specs.Epochs.{IsSeconds, IsTag, flag_of, IsFlag, IsLineCount, in_order, head_line}
+use Rattle.rinex_text.specs.declared.fault.Fault.{Fault}
+use Rattle.rinex_obs.specs.declared.head.Head.{Head}
 use Rattle.rinex_obs.specs.declared.head.Head.TheVariants.{Epoch, Event}
-use Rattle.rinex_obs.specs.Reading.{AreTenths}
+use Rattle.rinex_obs.specs.Reading.{AreTenths, IsHeadBehind}
 use Rattle.rinex_obs.proofs.OnlyLemmas.{seconds_only}
 use Rattle.std.proofs.lemmas.Bool.{both_ways}
 
@@ -76,32 +78,40 @@ count_of_lines field there blank lines same test solid is = elim is [
 
 -- ---- the line
 
-module _ (count : ℕ) (line : TextLine) (short : IsShort line) (printable : list_all is_printable line.text ≡ true) where
-  pub no_mark : (column_of line.text 1 ≡ 62 → ⊥) → head_line count line (Err fault.BadEpoch)
+module _ (count : ℕ) (before : Option ℤ) (line : TextLine) (short : IsShort line) (printable : list_all is_printable line.text ≡ true) where
+  pub no_mark : (column_of line.text 1 ≡ 62 → ⊥) → head_line count before line (Err fault.BadEpoch)
   no_mark other = inl (short, inl (printable, inr (other, refl)))
 
   module _ (begins : column_of line.text 1 ≡ 62) (flag : ℕ) (e : flag ≡ flag_of line.text) where
-    pub no_flag : (IsFlag flag → ⊥) → head_line count line (Err fault.BadEpoch)
+    pub no_flag : (IsFlag flag → ⊥) → head_line count before line (Err fault.BadEpoch)
     no_flag other = inl (short, inl (printable, inl (begins, inr ((rw e at other), refl))))
 
     module _ (is : IsFlag flag) where
       pub no_count : ((lines : ℕ) → IsLineCount (columns_of line.text 33 35) lines → ⊥)
-          → head_line count line (Err fault.BadCount)
+          → head_line count before line (Err fault.BadCount)
       no_count none = inl (short, inl (printable, inl (begins, inl ((rw e at is), inr (none, refl)))))
 
       module _ (lines : ℕ) (number : IsLineCount (columns_of line.text 33 35) lines) where
-        pub is_event : (flag ≤ 49 → ⊥) → head_line count line (Ok (Event (nat_le flag 53) lines))
+        pub is_event : (flag ≤ 49 → ⊥) → head_line count before line (Ok (Event (nat_le flag 53) lines))
         is_event other = rw e (inl (short, inl (printable, inl (begins, inl ((rw e at is), inl (lines, number, inr ((rw e at other), refl)))))))
 
         module _ (of_epoch : flag ≤ 49) where
           pub no_date : ((tag : ℤ) → IsTag line.text tag → ⊥)
-              → head_line count line (Err fault.BadEpoch)
+              → head_line count before line (Err fault.BadEpoch)
           no_date none = inl (short, inl (printable, inl (begins, inl ((rw e at is), inl (lines, number, inl ((rw e at of_epoch), inr (none, refl)))))))
 
           pub too_many : (tag : ℤ) → IsTag line.text tag → (count < 200000 → ⊥)
-              → head_line count line (Err fault.TooMany)
+              → head_line count before line (Err fault.TooMany)
           too_many tag date many = inl (short, inl (printable, inl (begins, inl ((rw e at is), inl (lines, number, inl ((rw e at of_epoch), inl (tag, date, inr (many, refl))))))))
 
-          pub is_epoch : (tag : ℤ) → IsTag line.text tag → count < 200000
-              → head_line count line (Ok (Epoch tag lines))
-          is_epoch tag date few = inl (short, inl (printable, inl (begins, inl ((rw e at is), inl (lines, number, inl ((rw e at of_epoch), inl (tag, date, inl (few, refl))))))))
+          pub is_epoch : (tag : ℤ) (answer : Result Head Fault) → IsTag line.text tag
+              → count < 200000 → in_order before tag lines answer
+              → head_line count before line answer
+          is_epoch tag answer date few order = inl (short, inl (printable, inl (begins, inl ((rw e at is), inl (lines, number, inl ((rw e at of_epoch), inl (tag, date, inl (few, order))))))))
+
+-- an epoch in order is one of so many
+pub order_behind : (count lines : ℕ) (tag : ℤ) (answer : Result Head Fault)
+    → (pos 0 ≤ℤ tag) × (tag <ℤ pos 4000000000000000000000) × (count < 200000)
+    → IfOk answer (λ head. head ≡ Epoch tag lines) → IfOk answer (IsHeadBehind count)
+order_behind count lines tag (Ok head) is e = rw e is
+order_behind count lines tag (Err f) is e = tt

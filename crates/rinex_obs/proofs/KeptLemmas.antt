@@ -13,7 +13,7 @@ use Rattle.rinex_text.specs.declared.fault.Refusal.{Refusal}
 use Rattle.rinex_text.proofs.OnlyLemmas.{ok_same, err_same, not_both}
 use Rattle.rinex_obs.specs.Epochs.{Observed}
 use Rattle.rinex_obs.specs.Facts.{AreNumberedFrom, AreNumbered, AreRisingFrom, AreDistinct, AreSatsOf, InEach}
-use Rattle.rinex_obs.specs.Files.{Observations, is_between, AreBetween, between, obs_file_of, IsObsFileOf, IsFirstFaultOf}
+use Rattle.rinex_obs.specs.Files.{Observations, is_between, AreBetween, between, obs_file_by, IsObsFileBy, IsFirstFaultBy}
 use Rattle.rinex_obs.specs.Header.{are_both}
 use Rattle.rinex_obs.specs.Reading.{observations_of, GivesObservations}
 use Rattle.rinex_obs.specs.Whole.{IsWholeOf}
@@ -70,43 +70,43 @@ all_between least (epoch ∷ more) from rising =
 
 -- ---- files
 
-module _ (sought : Sought) (position : Bool) (text : List ℕ) where
-  rising_file : (all : Observations) → IsObsFileOf sought position text all → AreRisingFrom 1 all.epochs
-  rising_file all file = numbered_rise all.epochs (on_file sought position text all file).numbered
+module _ (rising : Bool) (sought : Sought) (position : Bool) (text : List ℕ) where
+  rising_file : (all : Observations) → IsObsFileBy rising sought position text all → AreRisingFrom 1 all.epochs
+  rising_file all file = numbered_rise all.epochs (on_file rising sought position text all file).numbered
 
   -- all epochs of a file are from the first to the last
-  pub all_kept : (all : Observations) → IsObsFileOf sought position text all → between 1 200000 all ≡ all
+  pub all_kept : (all : Observations) → IsObsFileBy rising sought position text all → between 1 200000 all ≡ all
   all_kept all file =
       ap (λ (epochs : List Observed). record { position = all.position; epochs = epochs }) (all_between 1 all.epochs (omega arith) (rising_file all file))
 
-  pub read_whole : (read : Result Obs ReadError) → IfOk read (λ obs. AreBetween 1 200000 (IsObsFileOf sought position text) (observations_of obs))
-      → IfOk read (λ obs. IsObsFileOf sought position text (observations_of obs))
+  pub read_whole : (read : Result Obs ReadError) → IfOk read (λ obs. AreBetween 1 200000 (IsObsFileBy rising sought position text) (observations_of obs))
+      → IfOk read (λ obs. IsObsFileBy rising sought position text (observations_of obs))
   read_whole (Ok obs) (all, file, are) =
-      subst (IsObsFileOf sought position text) (sym (are ∙ all_kept all file)) file
+      subst (IsObsFileBy rising sought position text) (sym (are ∙ all_kept all file)) file
   read_whole (Err e) kept = tt
 
   module _ (from to : ℕ) where
     abbrev Kept : Obs → Type 0
-    Kept obs = AreBetween from to (IsObsFileOf sought position text) (observations_of obs)
+    Kept obs = AreBetween from to (IsObsFileBy rising sought position text) (observations_of obs)
 
     pub gives_between : (all : Observations) (given : Result Obs ReadError) → IfOk given Kept
-        → IfErr given (Refuses (obs_file_of sought position (lines_of text)))
-        → IsObsFileOf sought position text all → GivesObservations (between from to all) given
+        → IfErr given (Refuses (obs_file_by rising sought position (lines_of text)))
+        → IsObsFileBy rising sought position text all → GivesObservations (between from to all) given
     gives_between all (Ok obs) kept fault file =
-        kept.2 ∙ ap (between from to) (ok_same _ _ (file_only sought position (lines_of text) _ _ kept.1 file))
-    gives_between all (Err (Refused r)) kept fault file = absurd (not_both _ _ (file_only sought position (lines_of text) _ _ file fault))
+        kept.2 ∙ ap (between from to) (ok_same _ _ (file_only rising sought position (lines_of text) _ _ kept.1 file))
+    gives_between all (Err (Refused r)) kept fault file = absurd (not_both _ _ (file_only rising sought position (lines_of text) _ _ file fault))
     gives_between all (Err NoMemory) kept fault file = refl
 
     pub between_refusal : (r : Refusal) (given : Result Obs ReadError) → IfOk given Kept
-        → IfErr given (Refuses (obs_file_of sought position (lines_of text)))
-        → IsFirstFaultOf sought position text r → GivesRefusal r given
-    between_refusal r (Ok obs) kept fault first = not_both _ _ (file_only sought position (lines_of text) _ _ kept.1 first)
-    between_refusal r (Err (Refused other)) kept fault first = inl (ap (λ u. Refused u) (err_same _ _ (file_only sought position (lines_of text) _ _ fault first)))
+        → IfErr given (Refuses (obs_file_by rising sought position (lines_of text)))
+        → IsFirstFaultBy rising sought position text r → GivesRefusal r given
+    between_refusal r (Ok obs) kept fault first = not_both _ _ (file_only rising sought position (lines_of text) _ _ kept.1 first)
+    between_refusal r (Err (Refused other)) kept fault first = inl (ap (λ u. Refused u) (err_same _ _ (file_only rising sought position (lines_of text) _ _ fault first)))
     between_refusal r (Err NoMemory) kept fault first = inr refl
 
     pub between_whole : (read : Result Obs ReadError) → IfOk read Kept
         → IfOk read (λ obs. AreBetween from to (IsWholeOf sought position (lines_of text)) (observations_of obs))
-    between_whole (Ok obs) (all, file, are) = (all, whole sought position text all file, are)
+    between_whole (Ok obs) (all, file, are) = (all, whole rising sought position text all file, are)
     between_whole (Err e) kept = tt
 
     pub between_rising : (read : Result Obs ReadError) → IfOk read Kept
@@ -118,11 +118,11 @@ module _ (sought : Sought) (position : Bool) (text : List ℕ) where
     pub between_distinct : (read : Result Obs ReadError) → IfOk read Kept
         → IfOk read (λ obs. InEach AreDistinct (observations_of obs).epochs)
     between_distinct (Ok obs) (all, file, are) =
-        subst (λ (o : Observations). InEach AreDistinct o.epochs) (sym are) (some_in_each AreDistinct (is_between from to) all.epochs (on_file sought position text all file).distinct)
+        subst (λ (o : Observations). InEach AreDistinct o.epochs) (sym are) (some_in_each AreDistinct (is_between from to) all.epochs (on_file rising sought position text all file).distinct)
     between_distinct (Err e) kept = tt
 
     pub between_named : (read : Result Obs ReadError) → IfOk read Kept
         → IfOk read (λ obs. InEach (AreSatsOf (are_both sought)) (observations_of obs).epochs)
     between_named (Ok obs) (all, file, are) =
-        subst (λ (o : Observations). InEach (AreSatsOf (are_both sought)) o.epochs) (sym are) (some_in_each (AreSatsOf (are_both sought)) (is_between from to) all.epochs (on_file sought position text all file).named)
+        subst (λ (o : Observations). InEach (AreSatsOf (are_both sought)) o.epochs) (sym are) (some_in_each (AreSatsOf (are_both sought)) (is_between from to) all.epochs (on_file rising sought position text all file).named)
     between_named (Err e) kept = tt

@@ -9,6 +9,7 @@ pub mod HeadLemmas
 pub mod SatelliteLemmas
 pub mod BlockLemmas
 pub mod FactLemmas
+pub mod RisingLemmas
 pub mod JoinedLemmas
 pub mod WholeLemmas
 pub mod SettledLemmas

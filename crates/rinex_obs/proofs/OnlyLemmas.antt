@@ -26,8 +26,8 @@ use Rattle.rinex_text.proofs.FieldLemmas.{same_count}
 use Rattle.rinex_text.proofs.OnlyLemmas.{IsOnly, test_only, where_only, read_only, ok_same, err_same, not_both, then_only, gives_only, line_only, number_only, first_only, version_by_only}
 use Rattle.rinex_obs.specs.Types.{Code, Types, codes_from, more_codes, types_line, galileo_line}
 use Rattle.rinex_obs.specs.Header.{IsFixedField, Coordinates, position_line, IsCoordinate, IsPoint, IsPosition, Header, types_behind, header_line, CodePlaces, ArePlaces, MayBePlaces, Wanted, AreWanted, header_end, header_lines, are_both, have_both}
-use Rattle.rinex_obs.specs.Epochs.{IsSeconds, IsTag, IsLineCount, head_line, IsObserved, IsSecond, ArePlacesOf, satellite_line, satellites_from, event_line, event_from, Observed, block_from, epochs_from}
-use Rattle.rinex_obs.specs.Files.{Observations, obs_file_of, IsObsFileOf, IsFirstFaultOf}
+use Rattle.rinex_obs.specs.Epochs.{IsSeconds, IsTag, IsLineCount, in_order, head_line, IsObserved, IsSecond, ArePlacesOf, satellite_line, satellites_from, event_line, event_from, Observed, block_from, time_before, epochs_from}
+use Rattle.rinex_obs.specs.Files.{Observations, obs_file_by, IsObsFileBy, IsFirstFaultBy}
 use Rattle.rinex_obs.specs.Reading.{observations_of, GivesObservations}
 use Rattle.rinex_obs.specs.declared.head.Head.{Head}
 use Rattle.rinex_obs.specs.declared.head.Head.TheVariants.{Epoch, Event}
@@ -215,10 +215,15 @@ lines_only field m n a b = elim a [
   ]
 ]
 
-head_only : (count : ℕ) (line : TextLine) → IsOnly (head_line count line)
-head_only count line =
+order_only : (before : Option ℤ) (tag : ℤ) (lines : ℕ) → IsOnly (in_order before tag lines)
+order_only None tag lines = gives_only _
+order_only (Some before) tag lines = test_only _ _ _ (gives_only _)
+
+head_only : (count : ℕ) (before : Option ℤ) (line : TextLine)
+    → IsOnly (head_line count before line)
+head_only count before line =
     test_only _ _ _ (test_only _ _ _ (test_only _ _ _ (test_only _ _ _ (read_only _ _ _ (lines_only _) (λ lines.
-    where_only _ _ _ (read_only _ _ _ (tag_only line.text) (λ tag. test_only _ _ _ (gives_only _))) (gives_only _))))))
+    where_only _ _ _ (read_only _ _ _ (tag_only line.text) (λ tag. test_only _ _ _ (order_only before tag lines))) (gives_only _))))))
 
 places_of_only : (wanted : Wanted) (letter : ℕ) → IsOnly (ArePlacesOf wanted letter)
 places_of_only wanted letter x y (inl (g, a)) (inl (h, b)) = a ∙ sym b
@@ -251,34 +256,34 @@ block_only : (wanted : Wanted) (count : ℕ) (head : Head) (from : Behind)
 block_only wanted count (Epoch tag lines) from = then_only _ _ (satellites_only wanted lines [] from) (λ sats. gives_only _)
 block_only wanted count (Event labelled lines) from = then_only _ _ (event_only (have_both wanted) labelled lines from) (λ none. gives_only _)
 
-epochs_only : (wanted : Wanted) (epochs : List Observed) (number skip : ℕ) (lines : List TextLine)
-    → IsOnly (epochs_from wanted epochs number skip lines)
-epochs_only wanted epochs number skip [] x y a b = a ∙ sym b
-epochs_only wanted epochs number (suc skip) (line ∷ more) x y a b = epochs_only wanted epochs (number + 1) skip more x y a b
-epochs_only wanted epochs number zero (line ∷ more) x y a b =
-    line_only _ _ _ (head_only (length epochs) line) (λ head. then_only _ _ (block_only wanted (length epochs) head _) (λ block. epochs_only wanted _ (number + 1) block.lines more)) x y a b
+epochs_only : (rising : Bool) (wanted : Wanted) (epochs : List Observed) (number skip : ℕ) (lines : List TextLine)
+    → IsOnly (epochs_from rising wanted epochs number skip lines)
+epochs_only rising wanted epochs number skip [] x y a b = a ∙ sym b
+epochs_only rising wanted epochs number (suc skip) (line ∷ more) x y a b = epochs_only rising wanted epochs (number + 1) skip more x y a b
+epochs_only rising wanted epochs number zero (line ∷ more) x y a b =
+    line_only _ _ _ (head_only (length epochs) (time_before rising epochs) line) (λ head. then_only _ _ (block_only wanted (length epochs) head _) (λ block. epochs_only rising wanted _ (number + 1) block.lines more)) x y a b
 
 -- ---- files
 
-pub file_only : (sought : Sought) (position : Bool) (lines : List TextLine)
-    → IsOnly (obs_file_of sought position lines)
-file_only sought position lines =
+pub file_only : (rising : Bool) (sought : Sought) (position : Bool) (lines : List TextLine)
+    → IsOnly (obs_file_by rising sought position lines)
+file_only rising sought position lines =
     then_only _ _ (version_by_only (are_both sought) 79 lines) (λ version.
     then_only _ _ (header_lines_only sought position _ version.number version.lines) (λ start.
-    then_only _ _ (epochs_only start.wanted [] start.behind.number 0 (counted start.behind.lines)) (λ epochs. gives_only _)))
+    then_only _ _ (epochs_only rising start.wanted [] start.behind.number 0 (counted start.behind.lines)) (λ epochs. gives_only _)))
 
-pub gives_observations : (sought : Sought) (position : Bool) (text : List ℕ) (observations : Observations) (given : Result Obs ReadError)
-    → IfOk given (λ obs. IsObsFileOf sought position text (observations_of obs))
-    → IfErr given (Refuses (obs_file_of sought position (lines_of text)))
-    → IsObsFileOf sought position text observations → GivesObservations observations given
-gives_observations sought position text observations (Ok obs) is fault file = ok_same _ _ (file_only sought position (lines_of text) _ _ is file)
-gives_observations sought position text observations (Err (Refused r)) is fault file = absurd (not_both _ _ (file_only sought position (lines_of text) _ _ file fault))
-gives_observations sought position text observations (Err NoMemory) is fault file = refl
+pub gives_observations : (rising : Bool) (sought : Sought) (position : Bool) (text : List ℕ) (observations : Observations) (given : Result Obs ReadError)
+    → IfOk given (λ obs. IsObsFileBy rising sought position text (observations_of obs))
+    → IfErr given (Refuses (obs_file_by rising sought position (lines_of text)))
+    → IsObsFileBy rising sought position text observations → GivesObservations observations given
+gives_observations rising sought position text observations (Ok obs) is fault file = ok_same _ _ (file_only rising sought position (lines_of text) _ _ is file)
+gives_observations rising sought position text observations (Err (Refused r)) is fault file = absurd (not_both _ _ (file_only rising sought position (lines_of text) _ _ file fault))
+gives_observations rising sought position text observations (Err NoMemory) is fault file = refl
 
-pub gives_refusal : (sought : Sought) (position : Bool) (text : List ℕ) (r : Refusal) (given : Result Obs ReadError)
-    → IfOk given (λ obs. IsObsFileOf sought position text (observations_of obs))
-    → IfErr given (Refuses (obs_file_of sought position (lines_of text)))
-    → IsFirstFaultOf sought position text r → GivesRefusal r given
-gives_refusal sought position text r (Ok obs) is fault first = not_both _ _ (file_only sought position (lines_of text) _ _ is first)
-gives_refusal sought position text r (Err (Refused other)) is fault first = inl (ap (λ u. Refused u) (err_same _ _ (file_only sought position (lines_of text) _ _ fault first)))
-gives_refusal sought position text r (Err NoMemory) is fault first = inr refl
+pub gives_refusal : (rising : Bool) (sought : Sought) (position : Bool) (text : List ℕ) (r : Refusal) (given : Result Obs ReadError)
+    → IfOk given (λ obs. IsObsFileBy rising sought position text (observations_of obs))
+    → IfErr given (Refuses (obs_file_by rising sought position (lines_of text)))
+    → IsFirstFaultBy rising sought position text r → GivesRefusal r given
+gives_refusal rising sought position text r (Ok obs) is fault first = not_both _ _ (file_only rising sought position (lines_of text) _ _ is first)
+gives_refusal rising sought position text r (Err (Refused other)) is fault first = inl (ap (λ u. Refused u) (err_same _ _ (file_only rising sought position (lines_of text) _ _ fault first)))
+gives_refusal rising sought position text r (Err NoMemory) is fault first = inr refl

@@ -13,7 +13,7 @@ use Rattle.rinex_text.proofs.SettledLemmas.{alike_less, Settles, AreSettled, IsR
 use Rattle.rinex_obs.specs.declared.sought.Sought.{Sought}
 use Rattle.rinex_obs.specs.Header.{Header, are_both, Wanted, have_both, header_lines, Start}
 use Rattle.rinex_obs.specs.Epochs.{Observed, Block, satellite_line, satellites_from, event_line, event_from, block_from, epochs_from}
-use Rattle.rinex_obs.specs.Files.{unread, obs_file_of}
+use Rattle.rinex_obs.specs.Files.{unread, obs_file_by}
 use Rattle.rinex_obs.specs.declared.head.Head.{Head}
 use Rattle.rinex_obs.specs.declared.head.Head.TheVariants.{Epoch, Event}
 use Rattle.rinex_obs.specs.declared.obs.SatObs.{SatObs}
@@ -75,40 +75,40 @@ block_read wanted count (Event labelled left) number lines others block (inr (f,
 -- ---- the body
 
 -- the fault comes of the lines up to its own, and behind those that were read
-record SettlesBehind (wanted : Wanted) (epochs : List Observed) (number read : ℕ) (lines : List TextLine) (r : Refusal) : Type 0 where
-  settled : Settles number (epochs_from wanted epochs number read) lines r
+record SettlesBehind (rising : Bool) (wanted : Wanted) (epochs : List Observed) (number read : ℕ) (lines : List TextLine) (r : Refusal) : Type 0 where
+  settled : Settles number (epochs_from rising wanted epochs number read) lines r
   behind : read ≤ settled.behind
 
-epochs_settled : (wanted : Wanted) (epochs : List Observed) (number read : ℕ) (lines : List TextLine) (r : Refusal)
-    → epochs_from wanted epochs number read lines (Err r)
-    → SettlesBehind wanted epochs number read lines r
+epochs_settled : (rising : Bool) (wanted : Wanted) (epochs : List Observed) (number read : ℕ) (lines : List TextLine) (r : Refusal)
+    → epochs_from rising wanted epochs number read lines (Err r)
+    → SettlesBehind rising wanted epochs number read lines r
 unfolding settled_later
-epochs_settled wanted epochs number zero [] r e = absurd (not_both epochs r (sym e))
-epochs_settled wanted epochs number (suc read) [] r e = absurd (not_both epochs r (sym e))
-epochs_settled wanted epochs number (suc read) (line ∷ more) r h =
-    let s = epochs_settled wanted epochs (number + 1) read more r h in
-    let settled : Settles number (epochs_from wanted epochs number (suc read)) (line ∷ more) r =
-    settled_later number (epochs_from wanted epochs number (suc read)) (epochs_from wanted epochs (number + 1) read) line more r s.settled (λ rest same. s.settled.moves rest same) in
+epochs_settled rising wanted epochs number zero [] r e = absurd (not_both epochs r (sym e))
+epochs_settled rising wanted epochs number (suc read) [] r e = absurd (not_both epochs r (sym e))
+epochs_settled rising wanted epochs number (suc read) (line ∷ more) r h =
+    let s = epochs_settled rising wanted epochs (number + 1) read more r h in
+    let settled : Settles number (epochs_from rising wanted epochs number (suc read)) (line ∷ more) r =
+    settled_later number (epochs_from rising wanted epochs number (suc read)) (epochs_from rising wanted epochs (number + 1) read) line more r s.settled (λ rest same. s.settled.moves rest same) in
     let behind : settled.behind ≡ suc s.settled.behind = refl in
     record { settled = settled; behind = omega (arith, s.behind, behind) }
-epochs_settled wanted epochs number zero (line ∷ more) r (inl (head, is, inl (block, b, h))) =
-    let s = epochs_settled wanted (epochs ++ block.epochs) (number + 1) block.lines more r h in
+epochs_settled rising wanted epochs number zero (line ∷ more) r (inl (head, is, inl (block, b, h))) =
+    let s = epochs_settled rising wanted (epochs ++ block.epochs) (number + 1) block.lines more r h in
     record {
-      settled = settled_later number (epochs_from wanted epochs number zero) (epochs_from wanted (epochs ++ block.epochs) (number + 1) block.lines) line more r s.settled (λ rest same.
+      settled = settled_later number (epochs_from rising wanted epochs number zero) (epochs_from rising wanted (epochs ++ block.epochs) (number + 1) block.lines) line more r s.settled (λ rest same.
           let read = alike_less block.lines (suc s.settled.behind) more rest (omega (arith, s.behind)) same in
           inl (head, is, inl (block, block_read wanted (length epochs) head (number + 1) more rest block b read, s.settled.moves rest same)));
       behind = omega arith;
     }
-epochs_settled wanted epochs number zero (line ∷ more) r (inl (head, is, inr (f, b, e))) =
+epochs_settled rising wanted epochs number zero (line ∷ more) r (inl (head, is, inr (f, b, e))) =
     let same : r ≡ f = err_same r f e in
     let s = block_settled wanted (length epochs) head (number + 1) more r (subst (λ (q : Refusal). block_from wanted (length epochs) head (record { number = number + 1; lines = more }) (Err q)) (sym same) b) in
     record {
-      settled = settled_later number (epochs_from wanted epochs number zero) (λ lines. block_from wanted (length epochs) head (record { number = number + 1; lines = lines })) line more r s
+      settled = settled_later number (epochs_from rising wanted epochs number zero) (λ lines. block_from wanted (length epochs) head (record { number = number + 1; lines = lines })) line more r s
           (λ rest alike. inl (head, is, inr (r, s.moves rest alike, refl)));
       behind = omega arith;
     }
-epochs_settled wanted epochs number zero (line ∷ more) r (inr (f, is, e)) =
-    record { settled = settled_here number (epochs_from wanted epochs number zero) line more r f e (λ rest. inr (f, is, e)); behind = omega arith }
+epochs_settled rising wanted epochs number zero (line ∷ more) r (inr (f, is, e)) =
+    record { settled = settled_here number (epochs_from rising wanted epochs number zero) line more r f e (λ rest. inr (f, is, e)); behind = omega arith }
 
 -- ---- the header
 
@@ -158,39 +158,39 @@ header_front sought position known number (line ∷ more) start (inr (long, e)) 
 
 -- ---- files
 
-abbrev Moves : Sought → Bool → List TextLine → List TextLine → Refusal → Type 0
-Moves sought position lines others r = AgreeTo r.line lines others → obs_file_of sought position others (Err r)
+abbrev Moves : Bool → Sought → Bool → List TextLine → List TextLine → Refusal → Type 0
+Moves rising sought position lines others r = AgreeTo r.line lines others → obs_file_by rising sought position others (Err r)
 
-settled_file : (sought : Sought) (position : Bool) (lines others : List TextLine) (r : Refusal)
-    → obs_file_of sought position lines (Err r) → Moves sought position lines others r
-settled_file sought position lines others r (inr (f, v, e)) agree =
+settled_file : (rising : Bool) (sought : Sought) (position : Bool) (lines others : List TextLine) (r : Refusal)
+    → obs_file_by rising sought position lines (Err r) → Moves rising sought position lines others r
+settled_file rising sought position lines others r (inr (f, v, e)) agree =
     let same : r ≡ f = err_same r f e in
     let s = version_by_settled (are_both sought) 79 lines f v in
     let up_to : r.line ≡ suc s.behind = omega (arith, ap (λ (q : Refusal). q.line) same, s.line_is) in
     inr (f, s.moves others (subst (λ (k : ℕ). take k lines ≡ take k others) up_to agree.same), e)
-settled_file sought position [] others r (inl (version, v, h)) agree = absurd (not_both _ _ v)
-settled_file sought position (line ∷ more) others r (inl (version, v, inr (f, s, e))) agree =
+settled_file rising sought position [] others r (inl (version, v, h)) agree = absurd (not_both _ _ v)
+settled_file rising sought position (line ∷ more) others r (inl (version, v, inr (f, s, e))) agree =
     let same : r ≡ f = err_same r f e in
     let top = version_by_passed (are_both sought) 79 line more more version v in
     let s = header_settled sought position unread version.number version.lines f s in
     let here = in_header s.behind r.line line more others (omega (arith, ap (λ (q : Refusal). q.line) same, s.line_is, top.1)) agree in
     let alike : take (suc s.behind) version.lines ≡ take (suc s.behind) here.rest = ap (take (suc s.behind)) top.0 ∙ here.alike in
     let moved = s.moves here.rest alike in
-    subst (λ (l : List TextLine). obs_file_of sought position l (Err r)) (sym here.spelled)
+    subst (λ (l : List TextLine). obs_file_by rising sought position l (Err r)) (sym here.spelled)
     (inl (
       record { number = 2; lines = here.rest },
       (version_by_passed (are_both sought) 79 line more here.rest version v).2,
       inr (f, subst (λ (n : ℕ). header_lines sought position unread n here.rest (Err f)) top.1 moved, e),
     ))
-settled_file sought position (line ∷ more) others r (inl (version, v, inl (start, s, inr (f, b, e)))) agree =
+settled_file rising sought position (line ∷ more) others r (inl (version, v, inl (start, s, inr (f, b, e)))) agree =
     let same : r ≡ f = err_same r f e in
     let top = version_by_passed (are_both sought) 79 line more more version v in
     let front = header_front sought position unread version.number version.lines start s in
-    let body = (epochs_settled start.wanted [] start.behind.number 0 (counted start.behind.lines) f b).settled in
+    let body = (epochs_settled rising start.wanted [] start.behind.number 0 (counted start.behind.lines) f b).settled in
     let spelled : more ≡ front.front ++ start.behind.lines = sym top.0 ∙ front.spelled in
     let here = in_body body.behind r.line line front.front start.behind.lines others (omega (arith, ap (λ (q : Refusal). q.line) same, body.line_is, front.number_is, top.1))
     (subst (λ (l : List TextLine). AgreeTo r.line (line ∷ l) others) spelled agree) in
-    subst (λ (l : List TextLine). obs_file_of sought position l (Err r)) (sym here.spelled)
+    subst (λ (l : List TextLine). obs_file_by rising sought position l (Err r)) (sym here.spelled)
     (inl (
       record { number = 2; lines = front.front ++ here.rest },
       (version_by_passed (are_both sought) 79 line more (front.front ++ here.rest) version v).2,
@@ -200,11 +200,11 @@ settled_file sought position (line ∷ more) others r (inl (version, v, inl (sta
         inr (f, body.moves (counted here.rest) here.alike, e),
       ),
     ))
-settled_file sought position (line ∷ more) others r (inl (version, v, inl (start, s, inl (epochs, b, e)))) agree = absurd (not_both _ _ (sym e))
+settled_file rising sought position (line ∷ more) others r (inl (version, v, inl (start, s, inl (epochs, b, e)))) agree = absurd (not_both _ _ (sym e))
 
-pub settled_read : (sought : Sought) (position : Bool) (text : List ℕ) (read : Result Obs ReadError)
-    → IfErr read (Refuses (obs_file_of sought position (lines_of text)))
-    → IfErr read (IsSettled (obs_file_of sought position) text)
-settled_read sought position text (Ok obs) h = tt
-settled_read sought position text (Err NoMemory) h = tt
-settled_read sought position text (Err (Refused r)) h = λ other agree. settled_file sought position (lines_of text) (lines_of other) r h agree
+pub settled_read : (rising : Bool) (sought : Sought) (position : Bool) (text : List ℕ) (read : Result Obs ReadError)
+    → IfErr read (Refuses (obs_file_by rising sought position (lines_of text)))
+    → IfErr read (IsSettled (obs_file_by rising sought position) text)
+settled_read rising sought position text (Ok obs) h = tt
+settled_read rising sought position text (Err NoMemory) h = tt
+settled_read rising sought position text (Err (Refused r)) h = λ other agree. settled_file rising sought position (lines_of text) (lines_of other) r h agree

@@ -1,6 +1,6 @@
 -- How the lines of an observation file that is read are shared out.
 use Rattle.std.proofs.Common.{◌≡◌, ℕ, zero, suc, ◌+◌, ◌≤◌, ◌∙◌, Bool, true, false, cond, List, [], ◌∷◌, ◌++◌, length, get_or, take, drop, append_assoc, refl, ap, sym, subst, inl, inr, arith, Option, None, Some, is_some, Result, Ok, Err, IfOk, ◌⊎◌}
-use Rattle.std.specs.Prelude.{nat_le, codes}
+use Rattle.std.specs.Prelude.{ℤ, nat_le, codes}
 use Rattle.std.specs.List.{AllByRecursion, filter, list_all}
 use Rattle.std.specs.Str.{bytes_eq}
 use Rattle.std.proofs.lemmas.Bool.Decides.{nat_tests}
@@ -20,15 +20,15 @@ use Rattle.rinex_obs.specs.declared.sought.Sought.{Sought}
 use Rattle.gnss_model.specs.declared.satellites.Signal.TheVariants.{Single, Dual}
 use Rattle.rinex_obs.specs.Types.{Types, IsRead, is_read, types_line, galileo_line, AreComplete, codes_of}
 use Rattle.rinex_obs.specs.Header.{Coordinates, position_line, IsPosition, Header, header_line, CodePlaces, ArePlaces, MayBePlaces, are_both, Wanted, have_both, AreWanted, header_end, Start, header_lines}
-use Rattle.rinex_obs.specs.Epochs.{IsTag, flag_of, IsFlag, IsLineCount, ArePlacesOf, sat_on, satellite_line, satellites_from, event_line, event_from, head_line, Observed, Block, block_from, epochs_from}
-use Rattle.rinex_obs.specs.Files.{Observations, unread, IsObsFileOf}
+use Rattle.rinex_obs.specs.Epochs.{IsTag, flag_of, IsFlag, IsLineCount, ArePlacesOf, sat_on, satellite_line, satellites_from, event_line, event_from, head_line, Observed, Block, block_from, time_before, epochs_from}
+use Rattle.rinex_obs.specs.Files.{Observations, unread, IsObsFileBy}
 use Rattle.rinex_obs.specs.Reading.{observations_of}
 use Rattle.rinex_obs.specs.Whole.{is_types_line, AreTypes, AreGalileoTypes, IsPositionLine, IsPositionOf, IsFineInHeader, IsFineInEvent, Part, lines_of_parts, IsPart, begins_epoch, is_of_read, IsSeenOn, IsEpochOf, IsWholeOf}
 use Rattle.rinex_obs.specs.declared.head.Head.{Head}
 use Rattle.rinex_obs.specs.declared.head.Head.TheVariants.{Epoch, Event}
 use Rattle.rinex_obs.specs.declared.obs.Obs.{Obs}
 use Rattle.rinex_obs.specs.declared.obs.SatObs.{SatObs}
-use Rattle.rinex_obs.proofs.FactLemmas.{Give, given, on_test, on_where, on_either, on_read, on_then, on_line, on_more, has_places}
+use Rattle.rinex_obs.proofs.FactLemmas.{Give, given, on_order, on_test, on_where, on_either, on_read, on_then, on_line, on_more, has_places}
 use Rattle.rinex_obs.proofs.JoinedLemmas.{Walks, AreTypesBehind, walks_first, joined, solid_walk}
 use Rattle.std.proofs.lemmas.Bool.{both_ways as no_epoch}
 
@@ -179,13 +179,14 @@ abbrev IsHeadOf : TextLine → Head → Type 0
 IsHeadOf line (Epoch tag lines) = IsOpening line lines × (nat_le (flag_of line.text) 49 ≡ true) × IsTag line.text tag
 IsHeadOf line (Event labelled lines) = IsOpening line lines × (nat_le (flag_of line.text) 49 ≡ false) × (labelled ≡ nat_le (flag_of line.text) 53)
 
-head_of : (count : ℕ) (line : TextLine) → Give (IsHeadOf line) (head_line count line)
-head_of count line =
+head_of : (count : ℕ) (before : Option ℤ) (line : TextLine)
+    → Give (IsHeadOf line) (head_line count before line)
+head_of count before line =
     on_test (IsHeadOf line) _ _ _ (λ short. on_test (IsHeadOf line) _ _ _ (λ ascii. on_test (IsHeadOf line) _ _ _ (λ mark. on_test (IsHeadOf line) _ _ _ (λ flag.
     on_read (IsHeadOf line) _ _ _ (λ lines (is : IsLineCount (columns_of line.text 33 35) lines).
     let opening : IsOpening line lines = record { marked = mark; flag = flag; count = is; printable = ascii; short = short } in
     on_either (IsHeadOf line) _ _ _
-    (λ low. on_read (IsHeadOf line) _ _ _ (λ tag (time : IsTag line.text tag). on_test (IsHeadOf line) _ _ _ (λ few. given (IsHeadOf line) (Epoch tag lines) (opening, low_flag (flag_of line.text) low, time))))
+    (λ low. on_read (IsHeadOf line) _ _ _ (λ tag (time : IsTag line.text tag). on_test (IsHeadOf line) _ _ _ (λ few. on_order (IsHeadOf line) before tag lines (opening, low_flag (flag_of line.text) low, time))))
     (λ high. given (IsHeadOf line) (Event _ lines) (opening, high_flag (flag_of line.text) high, refl)))))))
 
 -- ---- parts
@@ -254,20 +255,20 @@ shared_first wanted line more block epochs after b s =
 no_more : (wanted : Wanted) (epochs : List Observed) → AreShared wanted zero [] epochs epochs
 no_more wanted epochs = record { parts = []; spelled = refl; are_parts = tt; new = []; after_is = sym (append-nil epochs); epochs_are = tt }
 
-shared : (wanted : Wanted) (epochs : List Observed) (number skip : ℕ) (lines : List TextLine)
-    → Give (AreShared wanted skip lines epochs) (epochs_from wanted epochs number skip lines)
-shared wanted epochs number zero [] = given (AreShared wanted zero [] epochs) epochs (no_more wanted epochs)
-shared wanted epochs number (suc skip) [] = given (AreShared wanted (suc skip) [] epochs) epochs (record { parts = []; spelled = refl; are_parts = tt; new = []; after_is = sym (append-nil epochs); epochs_are = tt })
-shared wanted epochs number (suc skip) (line ∷ more) =
+shared : (rising : Bool) (wanted : Wanted) (epochs : List Observed) (number skip : ℕ) (lines : List TextLine)
+    → Give (AreShared wanted skip lines epochs) (epochs_from rising wanted epochs number skip lines)
+shared rising wanted epochs number zero [] = given (AreShared wanted zero [] epochs) epochs (no_more wanted epochs)
+shared rising wanted epochs number (suc skip) [] = given (AreShared wanted (suc skip) [] epochs) epochs (record { parts = []; spelled = refl; are_parts = tt; new = []; after_is = sym (append-nil epochs); epochs_are = tt })
+shared rising wanted epochs number (suc skip) (line ∷ more) =
     on_more (AreShared wanted skip more epochs) (AreShared wanted (suc skip) (line ∷ more) epochs) _
     (λ after s. record { parts = s.parts; spelled = s.spelled; are_parts = s.are_parts; new = s.new; after_is = s.after_is; epochs_are = s.epochs_are })
-    (shared wanted epochs (number + 1) skip more)
-shared wanted epochs number zero (line ∷ more) =
+    (shared rising wanted epochs (number + 1) skip more)
+shared rising wanted epochs number zero (line ∷ more) =
     let Meets : List Observed → Type 0 = AreShared wanted zero (line ∷ more) epochs in
-    on_line Meets (head_line (length epochs) line) number _ (λ head is. on_then Meets (block_from wanted (length epochs) head (record { number = number + 1; lines = more })) _ (λ block l.
+    on_line Meets (head_line (length epochs) (time_before rising epochs) line) number _ (λ head is. on_then Meets (block_from wanted (length epochs) head (record { number = number + 1; lines = more })) _ (λ block l.
     on_more (AreShared wanted block.lines more (epochs ++ block.epochs)) Meets _
-    (λ after s. shared_first wanted line more block epochs after (block_of wanted (length epochs) line head (number + 1) more (head_of (length epochs) line (Ok head) is) (Ok block) l) s)
-    (shared wanted (epochs ++ block.epochs) (number + 1) block.lines more)))
+    (λ after s. shared_first wanted line more block epochs after (block_of wanted (length epochs) line head (number + 1) more (head_of (length epochs) (time_before rising epochs) line (Ok head) is) (Ok block) l) s)
+    (shared rising wanted (epochs ++ block.epochs) (number + 1) block.lines more)))
 
 -- ---- the position
 
@@ -549,19 +550,19 @@ behind_version both (line ∷ more) =
     let Meets : Behind → Type 0 = λ version. (first : TextLine) × (line ∷ more ≡ first ∷ version.lines) × IsShort first in
     on_line Meets (version_line_of both 79 line) 1 _ (λ passed l. given Meets _ (line, refl, version_short both line (Ok passed) l))
 
-pub whole : (sought : Sought) (position : Bool) (text : List ℕ) (observations : Observations)
-    → IsObsFileOf sought position text observations
+pub whole : (rising : Bool) (sought : Sought) (position : Bool) (text : List ℕ) (observations : Observations)
+    → IsObsFileBy rising sought position text observations
     → IsWholeOf sought position (lines_of text) observations
-whole sought position text observations file =
+whole rising sought position text observations file =
     let Meets : Observations → Type 0 = IsWholeOf sought position (lines_of text) in
     on_then Meets (version_by (are_both sought) 79 (lines_of text)) _ (λ version v. on_then Meets (header_lines sought position unread version.number version.lines) _ (λ start s.
-    on_then Meets (epochs_from start.wanted [] start.behind.number 0 (counted start.behind.lines)) _ (λ epochs e.
+    on_then Meets (epochs_from rising start.wanted [] start.behind.number 0 (counted start.behind.lines)) _ (λ epochs e.
     let first = behind_version (are_both sought) (lines_of text) (Ok version) v in
     let top = starts sought position unread version.number version.lines (Ok start) s in
     let typed = filter is_types_line top.header in
     let gps = has_types 71 sought.gps typed start.wanted.gps top.gps top.gps_are top.complete.0 top.wanted_is.of_gps in
     let galileo = has_galileo sought.galileo typed start.wanted.galileo top.galileo top.galileo_are top.complete.1 top.wanted_is.of_galileo in
-    let body = shared start.wanted [] start.behind.number 0 (counted start.behind.lines) (Ok epochs) e in
+    let body = shared rising start.wanted [] start.behind.number 0 (counted start.behind.lines) (Ok epochs) e in
     given Meets (record { position = start.position; epochs = epochs }) (record {
       header = top.header;
       behind = start.behind.lines;
@@ -577,8 +578,8 @@ whole sought position text observations file =
       epochs_are = record { parts = body.parts; spelled = body.spelled; are_parts = body.are_parts; epochs_are = subst (OneForOne (IsEpochOf start.wanted) (filter begins_epoch body.parts)) (sym body.after_is) body.epochs_are };
     })))) (Ok observations) file
 
-pub whole_read : (sought : Sought) (position : Bool) (text : List ℕ) (read : Result Obs ReadError)
-    → IfOk read (λ obs. IsObsFileOf sought position text (observations_of obs))
+pub whole_read : (rising : Bool) (sought : Sought) (position : Bool) (text : List ℕ) (read : Result Obs ReadError)
+    → IfOk read (λ obs. IsObsFileBy rising sought position text (observations_of obs))
     → IfOk read (λ obs. IsWholeOf sought position (lines_of text) (observations_of obs))
-whole_read sought position text (Ok obs) file = whole sought position text (observations_of obs) file
-whole_read sought position text (Err e) file = tt
+whole_read rising sought position text (Ok obs) file = whole rising sought position text (observations_of obs) file
+whole_read rising sought position text (Err e) file = tt

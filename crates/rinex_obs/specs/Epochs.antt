@@ -1,7 +1,7 @@
 -- The epochs of an observation file (RINEX 3.05, table A3): epoch lines with their satellite lines,
 -- and events with the lines that belong to them.
-use Rattle.std.specs.Prelude.{ℕ, zero, suc, ◌≡◌, ◌⊎◌, ◌+◌, ◌-◌, ◌*◌, ◌^◌, ◌≤◌, ◌<◌, ℤ, pos, neg_ℤ}
-use Rattle.std.specs.Prelude.{Bool, true, false, cond, ◌==◌, ◌&&◌, nat_le, List, [], ◌∷◌, ◌++◌}
+use Rattle.std.specs.Prelude.{ℕ, zero, suc, ◌≡◌, ◌⊎◌, ◌+◌, ◌-◌, ◌*◌, ◌^◌, ◌≤◌, ◌<◌, ◌<ℤ◌, ℤ, pos}
+use Rattle.std.specs.Prelude.{neg_ℤ, Bool, true, false, cond, ◌==◌, ◌&&◌, nat_le, List, [], ◌∷◌, ◌++◌}
 use Rattle.std.specs.Prelude.{length, Option, None, Some, Result, Ok, codes}
 use Rattle.std.specs.List.{list_all, list_any}
 use Rattle.exact_decimal.specs.Counts.{IsCount}
@@ -65,10 +65,16 @@ abbrev pub IsLineCount : List ℕ → ℕ → Type 0
 IsLineCount field lines = ((list_all is_blank field ≡ true) × (lines ≡ 0))
     ⊎ ((list_all is_blank field ≡ true → ⊥) × IsCount field lines)
 
+-- an epoch, whose time is later than the one before where one is told
+abbrev pub in_order : Option ℤ → ℤ → ℕ → Result Head Fault → Type 0
+in_order None tag lines = gives (Epoch tag lines)
+in_order (Some before) tag lines =
+    test (before <ℤ tag) fault.NotRising (gives (Epoch tag lines))
+
 -- Behind so many epochs. Flags 0 and 1 begin an epoch, 2 to 6 an event, and the labels of the lines
 -- of an event are looked at unless its flag is 6.
-abbrev pub head_line : ℕ → TextLine → Result Head Fault → Type 0
-head_line count line =
+abbrev pub head_line : ℕ → Option ℤ → TextLine → Result Head Fault → Type 0
+head_line count before line =
     test (IsShort line) fault.LongLine
     (test (list_all is_printable line.text ≡ true) fault.NotAscii
     (test (column_of line.text 1 ≡ 62) fault.BadEpoch
@@ -77,7 +83,7 @@ head_line count line =
     where_holds (flag_of line.text ≤ 49)
     (read (IsTag line.text) fault.BadEpoch (λ tag.
     test (count < 200000) fault.TooMany
-    (gives (Epoch tag lines))))
+    (in_order before tag lines)))
     (gives (Event (nat_le (flag_of line.text) 53) lines)))))))
 
 -- ---- the satellites of an epoch
@@ -179,16 +185,26 @@ block_from wanted count (Event labelled lines) from =
     then (event_from (have_both wanted) labelled lines from) (λ none.
     gives (record { epochs = []; lines = lines }))
 
+-- the time of the last of these epochs, and that before where there are none
+abbrev pub last_time : Option ℤ → List Observed → Option ℤ
+last_time before [] = before
+last_time before (epoch ∷ more) = last_time (Some epoch.tag) more
+
+-- what the time of the next epoch has to be later than, where times have to rise
+abbrev pub time_before : Bool → List Observed → Option ℤ
+time_before false epochs = None
+time_before true epochs = last_time None epochs
+
 -- The epochs in the lines of a body, behind those before, from a line number on. So many of the
--- first lines belong to what was read.
-abbrev pub epochs_from : Wanted → List Observed → ℕ → ℕ → List TextLine →
+-- first lines belong to what was read. The times of the epochs have to rise or needn't.
+abbrev pub epochs_from : Bool → Wanted → List Observed → ℕ → ℕ → List TextLine →
     Result (List Observed) Refusal → Type 0
-epochs_from wanted epochs number read [] answer = answer ≡ Ok epochs
-epochs_from wanted epochs number (suc read) (line ∷ more) answer =
-    epochs_from wanted epochs (number + 1) read more answer
-epochs_from wanted epochs number zero (line ∷ more) answer =
-    line_gives (head_line (length epochs) line) number (λ head.
+epochs_from rising wanted epochs number read [] answer = answer ≡ Ok epochs
+epochs_from rising wanted epochs number (suc read) (line ∷ more) answer =
+    epochs_from rising wanted epochs (number + 1) read more answer
+epochs_from rising wanted epochs number zero (line ∷ more) answer =
+    line_gives (head_line (length epochs) (time_before rising epochs) line) number (λ head.
     then (block_from wanted (length epochs) head (record { number = number + 1; lines = more }))
     (λ block.
-    epochs_from wanted (epochs ++ block.epochs) (number + 1) block.lines more))
+    epochs_from rising wanted (epochs ++ block.epochs) (number + 1) block.lines more))
     answer

@@ -1,9 +1,11 @@
 -- What holds of the epochs of every observation file: how they are numbered, and which satellites
--- they name.
-use Rattle.std.specs.Prelude.{ℕ, ◌≡◌, ◌≢◌, ◌+◌, ◌≤◌, Bool, true, false, List, [], ◌∷◌, length}
+-- they name. Those of a station rise.
+use Rattle.std.specs.Prelude.{ℕ, ◌≡◌, ◌≢◌, ◌+◌, ◌≤◌, ◌<◌, ◌<ℤ◌, Bool, true, false, List, [], ◌∷◌, Some}
+use Rattle.std.specs.Prelude.{length, slice_get}
 use Rattle.std.specs.List.{AllByRecursion}
 use Rattle.rinex_obs.specs.Types.{IsRead}
 use Rattle.rinex_obs.specs.Epochs.{Observed}
+use Rattle.rinex_obs.specs.declared.obs.ObsEpoch.{ObsEpoch}
 use Rattle.rinex_obs.specs.declared.obs.SatObs.{SatObs}
 
 -- ---- the numbers of epochs
@@ -23,6 +25,13 @@ abbrev pub AreRisingFrom : ℕ → List Observed → Type 0
 AreRisingFrom least [] = Unit {0}
 AreRisingFrom least (epoch ∷ more) =
     (least ≤ epoch.index) × (epoch.index ≤ 200000) × AreRisingFrom (epoch.index + 1) more
+
+-- ---- the times of epochs
+
+-- an epoch further back in the file has a greater tag
+pub record AreRising (epochs : List ObsEpoch) : Type 0 where
+  pub later : (i j : ℕ) (e f : ObsEpoch) → slice_get epochs i ≡ Some e
+      → slice_get epochs j ≡ Some f → i < j → e.tag <ℤ f.tag
 
 -- ---- the satellites of an epoch
 

@@ -1,5 +1,5 @@
 -- Observation files: what is read from the lines of a file, or its first fault.
-use Rattle.std.specs.Prelude.{ℕ, ◌≡◌, Bool, ◌&&◌, nat_le, List, [], Option, None, Some, Result, Ok, Err}
+use Rattle.std.specs.Prelude.{ℕ, ◌≡◌, Bool, true, false, ◌&&◌, nat_le, List, [], Option, None, Some, Result, Ok, Err}
 use Rattle.std.specs.List.{filter}
 use Rattle.rinex_text.specs.Bodies.{counted}
 use Rattle.rinex_text.specs.Faults.{then, gives}
@@ -21,23 +21,50 @@ pub record Observations : Type 0 where
 abbrev pub unread : Header
 unread = record { gps = None; galileo = None; position = None }
 
--- the observations of a file, or its first fault
-abbrev pub obs_file_of : Sought → Bool → List TextLine → Result Observations Refusal → Type 0
-obs_file_of sought position lines =
+-- the observations of a file, whose times have to rise or needn't, or its first fault
+abbrev pub obs_file_by : Bool → Sought → Bool → List TextLine → Result Observations Refusal →
+    Type 0
+obs_file_by rising sought position lines =
     then (version_by (are_both sought) 79 lines) (λ version.
     then (header_lines sought position unread version.number version.lines) (λ start.
-    then (epochs_from start.wanted [] start.behind.number 0 (counted start.behind.lines)) (λ epochs.
+    then (epochs_from rising start.wanted [] start.behind.number 0 (counted start.behind.lines))
+    (λ epochs.
     gives (record { position = start.position; epochs = epochs }))))
 
 -- the text is an observation file with these observations
-abbrev pub IsObsFileOf : Sought → Bool → List ℕ → Observations → Type 0
-IsObsFileOf sought position text observations =
-    obs_file_of sought position (lines_of text) (Ok observations)
+abbrev pub IsObsFileBy : Bool → Sought → Bool → List ℕ → Observations → Type 0
+IsObsFileBy rising sought position text observations =
+    obs_file_by rising sought position (lines_of text) (Ok observations)
 
 -- the text is none, and this is its first fault
+abbrev pub IsFirstFaultBy : Bool → Sought → Bool → List ℕ → Refusal → Type 0
+IsFirstFaultBy rising sought position text refusal =
+    obs_file_by rising sought position (lines_of text) (Err refusal)
+
+-- ---- of a receiver, whose times may come in any order
+
+abbrev pub obs_file_of : Sought → Bool → List TextLine → Result Observations Refusal → Type 0
+obs_file_of sought position lines answer = obs_file_by false sought position lines answer
+
+abbrev pub IsObsFileOf : Sought → Bool → List ℕ → Observations → Type 0
+IsObsFileOf sought position text observations =
+    IsObsFileBy false sought position text observations
+
 abbrev pub IsFirstFaultOf : Sought → Bool → List ℕ → Refusal → Type 0
-IsFirstFaultOf sought position text refusal =
-    obs_file_of sought position (lines_of text) (Err refusal)
+IsFirstFaultOf sought position text refusal = IsFirstFaultBy false sought position text refusal
+
+-- ---- of a station, whose times rise
+
+abbrev pub station_file : Sought → Bool → List TextLine → Result Observations Refusal → Type 0
+station_file sought position lines answer = obs_file_by true sought position lines answer
+
+abbrev pub IsStationFile : Sought → Bool → List ℕ → Observations → Type 0
+IsStationFile sought position text observations =
+    IsObsFileBy true sought position text observations
+
+abbrev pub IsFirstStationFault : Sought → Bool → List ℕ → Refusal → Type 0
+IsFirstStationFault sought position text refusal =
+    IsFirstFaultBy true sought position text refusal
 
 -- ---- with some of the epochs
 

@@ -4,7 +4,9 @@ ghost use Rattle.std.specs.Prelude.{◌≡◌, ◌↔◌, ◌^◌, ◌≤◌, �
 ghost use Rattle.std.specs.Prelude.{IfOk, IfSome, IfNone};
 ghost use Rattle.rinex_text.specs.Columns.{columns_of};
 ghost use Rattle.rinex_text.specs.Reading.{plain_line};
-ghost use Rattle.rinex_obs.specs.Epochs.{IsSeconds, IsTag, flag_of, IsFlag, IsLineCount, head_line};
+ghost use Rattle.rinex_obs.specs.Epochs.{IsSeconds, IsTag, flag_of, IsFlag, IsLineCount};
+ghost use Rattle.rinex_obs.specs.Epochs.{in_order, head_line};
+ghost use Rattle.rinex_obs.specs.declared.head.Head.TheVariants.{Epoch};
 ghost use Rattle.rinex_obs.specs.Reading.{AreTenths, IsHeadBehind};
 
 use exact_decimal::{Decimal, read_fixed};
@@ -140,9 +142,24 @@ fn line_count(text: &[u8]) -> Option<u16>
     three_digits(text, 33)
 }
 
-/// The first line of an epoch or an event, behind so many epochs.
-pub fn head_line(line: Line<'_>, count: usize) -> Result<Head, Fault>
-    ensures line { head_line count (plain_line line.entry) result }
+/// An epoch, where its time is later than the one before or none is told.
+fn in_order(before: Option<i128>, tag: i128, lines: u16) -> Result<Head, Fault>
+    ensures order { in_order before tag lines result }
+    ensures epoch { IfOk result (λ head. head ≡ Epoch tag lines) }
+{
+    let Some(before) = before else {
+        return Ok(Head::Epoch { tag, lines });
+    };
+    if tag <= before {
+        return Err(Fault::NotRising);
+    }
+    Ok(Head::Epoch { tag, lines })
+}
+
+/// The first line of an epoch or an event, behind so many epochs. The time of an epoch has to be
+/// later than the one before, where that is told.
+pub fn head_line(line: Line<'_>, count: usize, before: Option<i128>) -> Result<Head, Fault>
+    ensures line { head_line count before (plain_line line.entry) result }
     ensures behind { IfOk result (IsHeadBehind count) }
 {
     if !is_short(line) {
@@ -171,5 +188,5 @@ pub fn head_line(line: Line<'_>, count: usize) -> Result<Head, Fault>
     if count >= MOST_EPOCHS {
         return Err(Fault::TooMany);
     }
-    Ok(Head::Epoch { tag, lines })
+    in_order(before, tag, lines)
 }

@@ -16,5 +16,5 @@ mod sought;
 mod types;
 
 pub use obs::{Obs, ObsEpoch, SatObs};
-pub use read::{read_obs, read_obs_between, read_obs_both, read_obs_of};
+pub use read::{read_obs, read_obs_between, read_obs_both, read_obs_of, read_station};
 pub use sought::Sought;

@@ -24,6 +24,7 @@ number_of fault.HeaderChange = 25
 number_of fault.NotAscii = 26
 number_of fault.TooMany = 27
 number_of fault.NoPosition = 28
+number_of fault.NotRising = 43
 
 abbrev pub refusal : Fault → ℕ → Refusal
 refusal f line = record { number = number_of f; line = line }

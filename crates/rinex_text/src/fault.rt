@@ -46,6 +46,8 @@ pub enum Fault {
     TooMany = 27,
     /// The position is wanted, and absent or out of bounds.
     NoPosition = 28,
+    /// The time of an epoch of a station isn't later than that of the epoch before.
+    NotRising = 43,
 }
 
 /// The first fault of a file: its number, and the number of its line, from 1.

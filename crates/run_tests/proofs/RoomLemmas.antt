@@ -1,13 +1,14 @@
 -- What is left of the room behind a run, and that nothing fails while some is.
 use Rattle.std.proofs.Common.{◌≡◌, ◌≤◌, ◌<◌, ◌∙◌, ℕ, ◌+◌, Bool, true, false, List, [], length, take, Option, None, Some, is_some, Result, Ok, Err, refl, sym, ap, subst, inl, inr, arith, length-append}
 use Rattle.std.specs.Prelude.{IfSome}
+use Rattle.error_bounds.specs.Texts as settings
 use Rattle.std.specs.FinMap as map
 use Rattle.std.specs.Option.{option_map}
 use Rattle.std.proofs.lemmas.List.{length-take}
 use Rattle.command_words.specs.Commands as words
 use Rattle.command_words.specs.Commands.{Command, Judge, Pave, Solve, Check, Track, Retrack, Guard, Make}
 use Rattle.epoch_selection.specs.declared.selection.Selection.{Selection}
-use Rattle.input_files.specs.Inputs.{InputsValue, ReadsFor, ReadsNav, ReadsObs, settings_text, nav_text, obs_text, message_of, sought_of, wants_position}
+use Rattle.input_files.specs.Inputs.{InputsValue, ReadsBehindNav, ReadsFor, ReadsNav, ReadsObs, ReadsStation, settings_text, nav_text, obs_text, station_text, message_of, sought_of, wants_position}
 use Rattle.input_files.specs.Zones.{zones_text}
 use Rattle.input_files.specs.Logs.{log_text, rows_text}
 use Rattle.input_files.specs.Reading as reading
@@ -34,6 +35,7 @@ use Rattle.outer_io.specs.Told.{Files, ShelfState, Told, ShelfTerms, files_of, w
 use Rattle.outer_io.proofs.Appending.{taking-none}
 use Rattle.sat_model.specs.declared.rules.Rules.{Rules}
 use Rattle.rinex_obs.specs.Files.{Observations}
+use Rattle.rinex_obs.specs.declared.sought.Sought.{Sought}
 use Rattle.sat_model.specs.Logs.{LogValue}
 use Rattle.cover_run.specs.Checking.{CheckedValue, ReadsCheckedFor, ReadsLog}
 use Rattle.cover_run.specs.Making.{Makes, made_text}
@@ -340,18 +342,31 @@ module _ (limits : Limits) (told : Told) (before after : World) (trust : Trust) 
   abbrev Sound : {V : Type 0} → Reading V → Type 0
   Sound reads = trust.log None → NeverFails (MayBreak before.shelf after.shelf trust.log) told.files reads
 
+  station_sound : (sought : Sought) (name : Option (List ℕ)) (declared : Option settings.StationValue)
+      → IfSome name (IsThere told.files) → Sound (ReadsStation limits sought name declared)
+  station_sound sought None declared there = λ sure. returns_sound before.shelf after.shelf trust.log sure limits told.files None
+  station_sound sought (Some name) None there = λ sure. returns_sound before.shelf after.shelf trust.log sure limits told.files None
+  station_sound sought (Some name) (Some d) there = λ sure.
+      let text = station_text sought d.place d.age in
+      then_sound before.shelf after.shelf trust.log sure limits told.files (Named limits text name) (λ station. Returns (Some station))
+      (named_sound before.shelf after.shelf trust.log sure limits told.files text name there)
+      (λ station. returns_sound before.shelf after.shelf trust.log sure limits told.files (Some station))
+
   inputs_sound : (moving : Bool) (names : words.Files) → AreInputsThere told.files names
       → Sound (ReadsFor moving limits names)
   inputs_sound moving names there = λ sure.
-      then_sound before.shelf after.shelf trust.log sure limits told.files (Named limits (settings_text moving) names.settings) (ReadsNav limits names)
-      (named_sound before.shelf after.shelf trust.log sure limits told.files (settings_text moving) names.settings there.0) (λ s.
-      then_sound before.shelf after.shelf trust.log sure limits told.files (Named limits (nav_text (message_of s)) names.nav) (ReadsObs limits names s)
+      let settings = settings_text moving (is_some names.station) in
+      then_sound before.shelf after.shelf trust.log sure limits told.files (Named limits settings names.settings) (ReadsNav limits names)
+      (named_sound before.shelf after.shelf trust.log sure limits told.files settings names.settings there.0) (λ s.
+      then_sound before.shelf after.shelf trust.log sure limits told.files (Named limits (nav_text (message_of s)) names.nav) (ReadsBehindNav limits names s)
       (named_sound before.shelf after.shelf trust.log sure limits told.files (nav_text (message_of s)) names.nav there.1) (λ records.
+      then_sound before.shelf after.shelf trust.log sure limits told.files (ReadsStation limits (sought_of s) names.station s.station) (ReadsObs limits names s records)
+      (station_sound (sought_of s) names.station s.station there.3 sure) (λ station.
       let text = obs_text (sought_of s) (wants_position s.centre) names.epochs in
-      let value : Observations → InputsValue = λ o. record { settings = s; nav = records; obs = o } in
+      let value : Observations → InputsValue = λ o. record { settings = s; nav = records; station = station; obs = o } in
       then_sound before.shelf after.shelf trust.log sure limits told.files (Named limits text names.obs) (λ o. Returns (value o))
       (named_sound before.shelf after.shelf trust.log sure limits told.files text names.obs there.2)
-      (λ o. returns_sound before.shelf after.shelf trust.log sure limits told.files (value o))))
+      (λ o. returns_sound before.shelf after.shelf trust.log sure limits told.files (value o)))))
 
   check_sound : (moving : Bool) (names : words.Files)
       → AreInputsThere told.files names × IsThere told.files names.log

@@ -1,32 +1,27 @@
 -- A log that is solved by the rows of searches leaves nothing clear.
-use Rattle.std.specs.Prelude.{ℤ, ◌≤ℤ◌, pos}
-use Rattle.std.proofs.Common.{◌≡◌, ℕ, Bool, List, [], ◌∷◌, length, map, suc, refl, sym, ap, subst, ◌∙◌, arith, Option, None, Some}
-use Rattle.std.proofs.lemmas.Int.{ints}
+use Rattle.std.specs.Prelude.{pos}
+use Rattle.std.proofs.Common.{◌≡◌, ℕ, Bool, List, [], ◌∷◌, length, map, suc, refl, sym, ap, subst, ◌∙◌, Option, None, Some}
 use Rattle.box_contraction.proofs.BoxLemmas.{grid_part}
-use Rattle.epoch_rows.proofs.AgreeLemmas.{HasPoint}
-use Rattle.range_contractor.proofs.BoxLemmas.{along, holds_at}
-use Rattle.grid_model.specs.Sizes.{IsBoxSize}
-use Rattle.grid_model.specs.Boxes.{IsIn, Side, GridBox, grid_box, side_at}
+use Rattle.grid_model.specs.Boxes.{GridBox, grid_box}
 use Rattle.epoch_selection.specs.Searches.{Search, search_in, searches_in}
 use Rattle.range_contractor.proofs.TreeExists.{IsGridPart}
 use Rattle.rinex_obs.specs.declared.obs.ObsEpoch.{ObsEpoch}
 use Rattle.grid_model.specs.Lengths.{spare_of}
-use Rattle.grid_model.specs.SearchBoxes.{IsSearchSide, IsSearchBox}
+use Rattle.grid_model.specs.SearchBoxes.{IsSearchBox}
 use Rattle.gnss_model.specs.Delays.{err_spare_of}
 use Rattle.gnss_model.specs.declared.delays.Delays.{Delays}
 use Rattle.sat_model.specs.BoxTests.{test_in}
 use Rattle.sat_model.specs.Logs.{Body, Block, rows_of}
 use Rattle.sat_model.specs.declared.rows.SatEntry.{SatEntry}
-use Rattle.grid_model.specs.declared.boxes.Box3.{Box3}
 use Rattle.sat_model.specs.declared.rules.Rules.{Rules}
 use Rattle.sat_rows.specs.Meanings.{Meaning, IsSound}
 use Rattle.sat_rows.specs.declared.lines.SatLine.{SatLine}
-use Rattle.epoch_rows.proofs.CameLemmas.{whole_of}
-use Rattle.epoch_rows.specs.EpochsLeft.{EpochsLeft, GivesFirst, left_in, source_of}
+use Rattle.epoch_rows.proofs.CameLemmas.{first_kept, made_of, next_kept, next_searches, whole_solved}
+use Rattle.epoch_rows.specs.EpochsLeft.{EpochsLeft, GivesNext, IsKept, source_of}
 use Rattle.epoch_rows.specs.Grown.{HasBody, AreGrownLines, IsGrownBlock}
 use Rattle.epoch_rows.specs.Ready.{AreWritable}
-use Rattle.epoch_rows.specs.Renewed.{Hand, hand_of, maker_of}
-use Rattle.epoch_rows.specs.Solved.{IsMade, IsSolved, IsSolvedFirst, AreSolved}
+use Rattle.epoch_rows.specs.Renewed.{hand_of, maker_of}
+use Rattle.epoch_rows.specs.Solved.{IsSolved, IsSolvedFirst, AreSolved}
 use Rattle.sharpness_laws.specs.Left.{maker_in, NothingClearIn, BodyLeavesNothingClear, HandLeavesNothingClear, BlocksLeaveNothingClear, LogLeavesNothingClear}
 use Rattle.sharpness_laws.specs.UsableRows.{AreRowsOver, AreDistinctIf, AllDistinctIf}
 use Rattle.log_writer.specs.Kept.{hull_kept, hull_of_last}
@@ -133,58 +128,50 @@ module _ (m : Meaning) (sound : IsSound m) (renews : Bool) (rules : Rules) where
   abbrev source : Source EpochsLeft
   source = source_of m rules.outliers renews
 
-  module _ (old : EpochsLeft) (given : Block) (new : EpochsLeft) (gave : GivesFirst m rules.outliers old given new) where
-    first_search : searches_in old.root old.epochs ≡ search_in old.root gave.epoch ∷ searches_in new.root new.epochs
-    first_search = rw gave.same_root (ap (searches_in old.root) gave.first)
-
-    made_of : (Makes : Maker → Rules → Block → Block → Type 0) (block : Block)
-        → Makes (maker_of m renews new.hand) rules given block
-        → IsMade m renews rules Makes (search_in old.root gave.epoch) block
-    made_of Makes block made = record {
-      given = given;
-      grown = gave.grown;
-      made = subst (λ (hand : Option Hand). Makes (maker_of m renews hand) rules given block) gave.hand made;
-    }
-
-    distinct_of : AllDistinctIf renews old.epochs
-        → AreDistinctIf renews gave.epoch.sats.items × AllDistinctIf renews new.epochs
-    distinct_of distinct = let both : AllDistinctIf renews (gave.epoch ∷ new.epochs) = subst (AllDistinctIf renews) gave.first distinct in (both.0, both.1)
+  distinct_of : (left : EpochsLeft) (hull : Option GridBox) (given : Block) (next : EpochsLeft) (gave : GivesNext m rules.outliers left hull given next)
+      → AllDistinctIf renews left.epochs
+      → AreDistinctIf renews gave.epoch.sats.items × AllDistinctIf renews next.epochs
+  distinct_of left hull given next gave distinct =
+      let both : AllDistinctIf renews (gave.epoch ∷ next.epochs) = subst (AllDistinctIf renews) gave.first distinct in
+      (both.0, both.1)
 
   hand_came : (behind : EpochsLeft) (hull : Option GridBox) (hand : Option Block)
-      → IsSearchBox behind.root → IsGridPart behind.root → AllDistinctIf renews behind.epochs
+      → IsKept behind.last hull → AllDistinctIf renews behind.epochs
       → IsInHand source rules behind hull hand
-      → BlocksLeaveNothingClear m renews rules (searches_in behind.root behind.epochs) [] hand
-  hand_came behind hull None box grid distinct in_hand = tt
-  hand_came behind hull (Some block) box grid distinct (given, next, gave, begins) =
-      subst (λ (l : List Search). BlocksLeaveNothingClear m renews rules l [] (Some block)) (sym (first_search behind given next gave))
-      (hand_clear (search_in behind.root gave.epoch) box grid (distinct_of behind given next gave distinct).0 block (made_of behind given next gave Begins block begins))
+      → BlocksLeaveNothingClear m renews rules (behind.searches hull []) [] hand
+  hand_came behind hull None kept distinct in_hand = tt
+  hand_came behind hull (Some block) kept distinct (given, next, gave, begins) =
+      subst (λ (l : List Search). BlocksLeaveNothingClear m renews rules l [] (Some block)) (sym (gave.is_first kept).ends.1)
+      (hand_clear (search_in (grid_box gave.root) gave.epoch) gave.box (grid_part gave.root) (distinct_of behind hull given next gave distinct).0 block
+      (made_of m renews rules Begins behind hull given block next gave begins))
 
   pub came_clear : (left : EpochsLeft) (hull : Option GridBox) (blocks : List Block) (behind : EpochsLeft) (hand : Option Block)
-      → IsSearchBox left.root → IsGridPart left.root → AllDistinctIf renews left.epochs
+      → IsKept left.last hull → AllDistinctIf renews left.epochs
       → Came source rules left hull blocks behind
       → IsInHand source rules behind (hull_of_last hull blocks) hand
-      → BlocksLeaveNothingClear m renews rules (searches_in left.root left.epochs) blocks hand
-  came_clear left hull [] behind hand box grid distinct came in_hand =
-      hand_came left hull hand box grid distinct (subst (λ (l : EpochsLeft). IsInHand source rules l hull hand) (sym came) in_hand)
-  came_clear left hull (block ∷ blocks) behind hand box grid distinct (given, next, gave, paves, came) in_hand =
-      let (here, later) = distinct_of left given next gave distinct in
-      subst (λ (l : List Search). BlocksLeaveNothingClear m renews rules l (block ∷ blocks) hand) (sym (first_search left given next gave)) (
-        body_clear (search_in left.root gave.epoch) box grid here block (made_of left given next gave Paves block paves),
-        came_clear next (hull_kept block.body) blocks behind hand (subst IsSearchBox (sym gave.same_root) box) (subst IsGridPart (sym gave.same_root) grid) later came in_hand,
+      → BlocksLeaveNothingClear m renews rules (left.searches hull blocks) blocks hand
+  came_clear left hull [] behind hand kept distinct came in_hand =
+      hand_came left hull hand kept distinct (subst (λ (l : EpochsLeft). IsInHand source rules l hull hand) (sym came) in_hand)
+  came_clear left hull (block ∷ blocks) behind hand kept distinct (given, next, gave, paves, came) in_hand =
+      let (here, later) = distinct_of left hull given next gave distinct in
+      subst (λ (l : List Search). BlocksLeaveNothingClear m renews rules l (block ∷ blocks) hand) (sym (next_searches m renews rules left hull given block next gave paves kept blocks)) (
+        body_clear (search_in (grid_box gave.root) gave.epoch) gave.box (grid_part gave.root) here block (made_of m renews rules Paves left hull given block next gave paves),
+        came_clear next (hull_kept block.body) blocks behind hand (next_kept m renews rules left hull given block next gave paves) later came in_hand,
       )
 
-  -- ---- a source of epochs
-
-  module _ (root : Box3) (box : IsSearchBox (grid_box root)) (epochs : List ObsEpoch) (distinct : AllDistinctIf renews epochs) (limit : ℕ) (bytes said : List ℕ) where
+  module _ (left : EpochsLeft) (first : left.last ≡ None) (distinct : AllDistinctIf renews left.epochs) (limit : ℕ) (bytes said : List ℕ) where
     -- the whole log
-    pub whole_clear : (last : EpochsLeft) (w : IsWhole source rules (left_in (grid_box root) epochs) last limit bytes said)
-        → LogLeavesNothingClear m renews rules (searches_in (grid_box root) epochs) w.log.blocks
-    whole_clear last w = log_clear (grid_box root) box (grid_part root) epochs w.log.blocks distinct (whole_of m renews rules (left_in (grid_box root) epochs) w.log.blocks w.behind w.came w.no_more)
+    pub whole_clear : (last : EpochsLeft) (w : IsWhole source rules left last limit bytes said)
+        → LogLeavesNothingClear m renews rules (left.searches None w.log.blocks) w.log.blocks
+    whole_clear last w = (
+      as_many (left.searches None w.log.blocks) w.log.blocks (whole_solved m sound renews rules left last first limit bytes said w),
+      came_clear left None w.log.blocks w.behind None (first_kept left.last first) distinct w.came tt,
+    )
 
     -- what a fault left of it
-    pub begun_clear : (fault : WriteFault) (b : IsBegun fault source rules (left_in (grid_box root) epochs) limit bytes said)
-        → BlocksLeaveNothingClear m renews rules (searches_in (grid_box root) epochs) b.blocks b.hand
-    begun_clear fault b = came_clear (left_in (grid_box root) epochs) None b.blocks b.behind b.hand box (grid_part root) distinct b.came b.in_hand
+    pub begun_clear : (fault : WriteFault) (b : IsBegun fault source rules left limit bytes said)
+        → BlocksLeaveNothingClear m renews rules (left.searches None b.blocks) b.blocks b.hand
+    begun_clear fault b = came_clear left None b.blocks b.behind b.hand (first_kept left.last first) distinct b.came b.in_hand
 
 -- ---- epochs that can stand in a log
 
@@ -194,21 +181,3 @@ pub writable_distinct : (renews : Bool) (before : Option ℕ) (epochs : List Obs
 writable_distinct renews before [] writable = tt
 writable_distinct renews before (epoch ∷ epochs) writable =
     (λ active. writable.1.distinct, writable_distinct renews (Some epoch.index) epochs writable.2)
-
--- ---- each search in a box of its own
-
-sized : (s : Side) → IsSearchSide s → IsBoxSize s.lo × IsBoxSize s.hi
-sized s is = (
-  record { low = omega (arith, ints, is.low.low); high = omega (arith, ints, is.low.high) },
-  record { low = omega (arith, ints, is.high.low); high = omega (arith, ints, is.high.high) },
-)
-
-ordered : (s : Side) (n : ℤ) → IsIn s n → s.lo ≤ℤ s.hi
-ordered s n (low, high) = omega (arith, ints, low, high)
-
--- a search box with a point is a box of the grid, not empty
-pub point_grid : (root : GridBox) → HasPoint root → IsGridPart root
-point_grid root has = record {
-  lies = λ axis. record { low = omega (arith, ints); ordered = ordered (side_at axis root) (along axis has.point) (holds_at root has.point has.inside axis); high = omega (arith, ints) };
-  sizes = record { x = sized root.x has.box.x; y = sized root.y has.box.y; z = sized root.z has.box.z };
-}

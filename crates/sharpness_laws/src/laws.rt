@@ -1,11 +1,11 @@
 //! Laws of clear boxes.
 
-ghost use Rattle.std.specs.Prelude.{◌≡◌, ◌+◌, ◌*◌, ◌≤◌, ℕ, Bool, List, pos, Some, map};
+ghost use Rattle.std.specs.Prelude.{◌≡◌, ◌+◌, ◌*◌, ◌≤◌, ℕ, Bool, List, pos, None, Some, map};
 ghost use Rattle.sharpness_laws.specs.Clear.{IsEmptyBy, IsInnerBy};
 ghost use Rattle.sharpness_laws.specs.Left.{NothingClearIn, BlocksLeaveNothingClear};
 ghost use Rattle.sharpness_laws.specs.Left.{LogLeavesNothingClear};
 ghost use Rattle.sharpness_laws.specs.UsableRows.{AreRowsOver, AreDistinctIf, AllDistinctIf};
-ghost use Rattle.epoch_rows.specs.EpochsLeft.{left_in, source_of};
+ghost use Rattle.epoch_rows.specs.EpochsLeft.{EpochsLeft, source_of};
 ghost use Rattle.epoch_rows.specs.Grown.{AreGrownLines};
 ghost use Rattle.epoch_rows.specs.Renewed.{maker_of};
 ghost use Rattle.epoch_rows.specs.Solved.{AreSolved};
@@ -69,7 +69,8 @@ pub fn runs_leave_nothing_clear<S: RowSource>()
 {}
 
 /// The law: a log of solved epochs in one root leaves nothing clear, and neither does what a fault
-/// left of it, up to the block in hand. The call does nothing.
+/// left of a log whose epochs are searched in any roots, up to the block in hand. The call does
+/// nothing.
 pub fn logs_leave_nothing_clear<S: RowSource>()
     ensures whole { (source : S) (renews : Bool) (rules : Rules) (root : Box3)
         (epochs : List ObsEpoch) (blocks : List Block)
@@ -78,12 +79,11 @@ pub fn logs_leave_nothing_clear<S: RowSource>()
         → AreSolved (S.meaning source) renews rules (searches_in (grid_box root) epochs) blocks
         → LogLeavesNothingClear (S.meaning source) renews rules
         (searches_in (grid_box root) epochs) blocks }
-    ensures begun { (source : S) (renews : Bool) (rules : Rules) (root : Box3)
-        (epochs : List ObsEpoch) (fault : WriteFault) (limit : ℕ) (bytes said : List ℕ)
-        → IsSearchBox (grid_box root)
-        → AllDistinctIf renews epochs
-        → (begun : IsBegun fault (source_of (S.meaning source) rules.outliers renews) rules
-        (left_in (grid_box root) epochs) limit bytes said)
+    ensures begun { (source : S) (renews : Bool) (rules : Rules) (left : EpochsLeft)
+        (fault : WriteFault) (limit : ℕ) (bytes said : List ℕ) → left.last ≡ None
+        → AllDistinctIf renews left.epochs
+        → (begun : IsBegun fault (source_of (S.meaning source) rules.outliers renews) rules left
+        limit bytes said)
         → BlocksLeaveNothingClear (S.meaning source) renews rules
-        (searches_in (grid_box root) epochs) begun.blocks begun.hand }
+        (left.searches None begun.blocks) begun.blocks begun.hand }
 {}

@@ -6,7 +6,7 @@ use Rattle.std.proofs.lemmas.Bool.{cases_lt}
 use Rattle.std.proofs.lemmas.Int.{ints}
 use Rattle.std.proofs.lemmas.Option.{same_Some, slice_get_within, slice_get-get_or, slice_get_read}
 use Rattle.rinex_obs.specs.declared.obs.ObsEpoch.{ObsEpoch}
-use Rattle.station_epochs.specs.Grounds.{AreRising}
+use Rattle.rinex_obs.specs.Facts.{AreRising}
 use Rattle.station_epochs.specs.Search.{IsSplitAt, IsNearAt, IsLastOf, IsAtPlace, IsNearer}
 use Rattle.station_epochs.specs.Stations.{Station, IsInTime, IsStationEpoch}
 use Rattle.station_epochs.specs.declared.nearest.Near.{Near}

@@ -1,3 +1,2 @@
-pub mod Grounds
 pub mod Stations
 pub mod Search

@@ -1,7 +1,8 @@
 //! A station and its epochs.
 
 ghost use Rattle.std.specs.Prelude.{◌≤◌};
-ghost use Rattle.station_epochs.specs.Grounds.{AreRising, IsNearGround};
+ghost use Rattle.error_bounds.specs.Sizes.{IsNearGround};
+ghost use Rattle.rinex_obs.specs.Facts.{AreRising};
 
 use crate::nearest::{Near, is_later, nearer, time_between};
 use grid_model::Pos;

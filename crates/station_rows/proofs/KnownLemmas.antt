@@ -13,7 +13,7 @@ use Rattle.rinex_obs.specs.declared.obs.ObsEpoch.{ObsEpoch}
 use Rattle.rinex_obs.specs.declared.obs.SatObs.{SatObs}
 use Rattle.sat_rows.specs.RowSizes.{AreNarrow, IsNearEpoch}
 use Rattle.sat_rows.proofs.RowLemmas.{known_near, known_near_at, narrow_codes}
-use Rattle.station_epochs.specs.Grounds.{IsNearGround}
+use Rattle.error_bounds.specs.Sizes.{IsNearGround}
 use Rattle.station_epochs.specs.Stations.{Station, IsInTime, IsStationEpoch}
 use Rattle.station_rows.specs.Differences.{CommonView}
 use Rattle.station_rows.specs.Judgements.{IsItsObservation, IsKnownByBoth}

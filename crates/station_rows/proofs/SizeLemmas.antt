@@ -31,7 +31,7 @@ use Rattle.broadcast_orbit.proofs.Distances.{AreRadii, least_radius, radius_slac
 use Rattle.broadcast_orbit.proofs.PairLemmas.{square_of_sum, square_of_difference, square_natural, product_between}
 use Rattle.broadcast_orbit.proofs.TurnKeeps.{turn_keeps, IsTurnBound}
 use Rattle.sat_rows.specs.Chains.{Chain}
-use Rattle.station_epochs.specs.Grounds.{IsNearGround, station_reach}
+use Rattle.error_bounds.specs.Sizes.{IsNearGround, station_reach}
 use Rattle.station_rows.specs.Differences.{CommonView, IsDifferenceOf}
 use Rattle.station_rows.specs.Nearby.{HasNearRecord, AreNearby, ArePlausibleCodes, medium_root_a, clock_time_reach, pseudoranges_apart, difference_reach}
 use Rattle.station_rows.proofs.NearbyLemmas.{near_ranges}

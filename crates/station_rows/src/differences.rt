@@ -9,7 +9,7 @@ ghost use Rattle.grid_model.specs.declared.boxes.Pos.{Pos};
 ghost use Rattle.gnss_model.specs.declared.delays.Delays.{Delays};
 ghost use Rattle.sat_rows.specs.Bases.{ComesFrom, IsNarrowBase};
 ghost use Rattle.sat_rows.specs.Chains.{Chain};
-ghost use Rattle.station_epochs.specs.Grounds.{IsNearGround};
+ghost use Rattle.error_bounds.specs.Sizes.{IsNearGround};
 ghost use Rattle.station_rows.specs.Bases.{HaveSmallDifference, IsBaseOfOne};
 ghost use Rattle.station_rows.specs.Bases.{residual_amount, residual_width};
 ghost use Rattle.station_rows.specs.Differences.{less_residual, residual_of};

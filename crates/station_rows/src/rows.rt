@@ -12,7 +12,7 @@ ghost use Rattle.sat_rows.specs.Bases.{ComesFrom, IsNarrowBase};
 ghost use Rattle.sat_rows.specs.Chains.{Chain};
 ghost use Rattle.sat_rows.specs.OwnRows.{HasBounds, IsSmall, IsTight};
 ghost use Rattle.sat_rows.specs.RowSizes.{AreNarrow, IsNearEpoch};
-ghost use Rattle.station_epochs.specs.Grounds.{IsNearGround};
+ghost use Rattle.error_bounds.specs.Sizes.{IsNearGround};
 ghost use Rattle.station_rows.specs.Differences.{AreDifferences, ErrorsDifferWithin};
 ghost use Rattle.station_rows.specs.Nearby.{AreNearby};
 ghost use Rattle.station_rows.specs.Observations.{view_of};

@@ -3,7 +3,7 @@
 ghost use Rattle.grid_model.specs.Sizes.{IsWithin};
 ghost use Rattle.grid_model.specs.declared.boxes.Pos.{Pos};
 ghost use Rattle.sat_rows.specs.Chains.{Chain};
-ghost use Rattle.station_epochs.specs.Grounds.{IsNearGround};
+ghost use Rattle.error_bounds.specs.Sizes.{IsNearGround};
 ghost use Rattle.station_rows.specs.Differences.{CommonView, IsDifferenceOf};
 ghost use Rattle.station_rows.specs.Nearby.{AreNearby, ArePlausibleCodes};
 ghost use Rattle.station_rows.specs.Nearby.{difference_reach};

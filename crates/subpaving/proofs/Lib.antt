@@ -1,3 +1,4 @@
 pub mod CutLemmas
 pub mod LiveLemmas
+pub mod GroupLemmas
 pub mod FoldingLemmas

@@ -1,2 +1,3 @@
 pub mod LiveValues
+pub mod Groups
 pub mod Folding

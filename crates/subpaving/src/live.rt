@@ -1,11 +1,15 @@
 //! The boxes of an epoch that no step has closed yet.
 
-ghost use Rattle.std.specs.Prelude.{◌≡◌, ◌≢◌, ◌%◌, ℕ, length, Some, None, false, IfOk, OnOk, OnErr};
-ghost use Rattle.std.specs.Prelude.{◌↔◌, IsTrue};
+ghost use Rattle.std.specs.Prelude.{◌≡◌, ◌≢◌, ◌≤◌, ◌<◌, ◌*◌, ◌/◌, ◌%◌, ℕ, length, Some, None, false};
+ghost use Rattle.std.specs.Prelude.{◌↔◌, IsTrue, IfOk, OnOk, OnErr, MatchOption, Option};
+ghost use Rattle.std.specs.Prelude.{slice_index_or};
+ghost use Rattle.grid_model.specs.declared.boxes.Box3.{Box3};
 ghost use Rattle.sat_model.specs.declared.steps.Step.TheVariants.{Cut, Split, Outside};
 ghost use Rattle.grid_model.specs.Boxes.{GridBox, grid_box, IsInside};
 ghost use Rattle.sat_model.specs.Fold.{first_boxes, live_box, IsLive, NoneLive, boxes_after};
 ghost use Rattle.sat_model.specs.Renewals.{HoldsLive};
+ghost use Rattle.subpaving.specs.Groups.{AreGrouped, AreWider, HasBeyond, Holds, IsBoundOf, IsIn};
+ghost use Rattle.subpaving.specs.Groups.{LiesIn};
 
 use crate::cuts::left_by;
 use crate::inside::lies_in;
@@ -13,12 +17,34 @@ use grid_model::Box3;
 use sat_model::Step;
 use std::alloc::{AllocError, Global};
 
+/// How many numbers make a group.
+const GROUP: usize = 512;
+
+/// The hull of what a bound holds and of a box.
+fn joined(bound: Option<Box3>, part: &Box3) -> Box3
+    ensures wider { (other : Box3) → Holds bound other → LiesIn other result }
+    ensures inside { LiesIn part.now result }
+{
+    match bound {
+        Some(bound) => bound.hull(part),
+        None => *part,
+    }
+}
+
 /// The boxes by their numbers, none in place of a closed one. The root has number 0, and each split
 /// gives the next two.
+///
+/// `bounds` has for each group of 512 numbers a box that holds its live boxes, or none where none
+/// of them is live. A step makes boxes smaller, so such a box stays right, and is formed anew only
+/// where rows are to be renewed over a box that doesn't hold it: each step lets a group be looked
+/// through once at most.
 #[derive(Debug, Drop)]
 pub struct Live {
     boxes: Vec<Option<Box3>>,
+    bounds: Vec<Option<Box3>>,
     ghost odd: { length boxes.items % 2 ≡ 1 },
+    ghost enough: { length boxes.items ≤ 512 * length bounds.items },
+    ghost grouped: { AreGrouped boxes.items bounds.items },
 }
 
 impl Live {
@@ -31,7 +57,9 @@ impl Live {
     {
         let mut boxes = Vec::new(alloc);
         boxes.push(Some(*root))?;
-        Ok(Live { boxes })
+        let mut bounds = Vec::new(alloc);
+        bounds.push(Some(*root))?;
+        Ok(Live { boxes, bounds })
     }
 
     /// The live box of a number.
@@ -66,31 +94,75 @@ impl Live {
     }
 
     /// Whether rows may be renewed over a box: it lies in the root, and each live box lies in it.
-    pub fn may_renew(&self, root: &Box3, part: &Box3) -> bool
-        ensures { IsTrue result
-            ↔ HoldsLive (grid_box root.now) (live_value self.now) (grid_box part.now) }
+    pub fn may_renew(&mut self, root: &Box3, part: &Box3) -> bool
+        ensures same { live_value self.new ≡ live_value self.old }
+        ensures holds { IsTrue result
+            ↔ HoldsLive (grid_box root.now) (live_value self.old) (grid_box part.now) }
     {
         lies_in(part, root) && self.all_inside(part)
     }
 
     /// Whether each live box lies in this one.
-    fn all_inside(&self, whole: &Box3) -> bool
-        ensures yes { IsTrue result → (id : ℕ) (live : GridBox) → IsLive (live_value self.now) id live
+    fn all_inside(&mut self, whole: &Box3) -> bool
+        ensures same { self.new.boxes.items ≡ self.old.boxes.items }
+        ensures yes { IsTrue result → (id : ℕ) (live : GridBox) → IsLive (live_value self.old) id live
             → IsInside live (grid_box whole.now) }
         ensures no { (result ≡ false) → (id : ℕ) × (live : GridBox)
-            × IsLive (live_value self.now) id live × (IsInside live (grid_box whole.now) → ⊥) }
+            × IsLive (live_value self.old) id live × (IsInside live (grid_box whole.now) → ⊥) }
     {
-        for found in &self.boxes {
-            match found {
-                Some(part) => {
-                    if !lies_in(part, whole) {
-                        return false;
-                    }
-                }
-                None => {}
+        let groups = self.boxes.len().div_ceil(GROUP);
+        'groups: for group in 0..groups {
+            if !self.is_group_inside(group, whole) {
+                return false;
             }
         }
         true
+    }
+
+    /// Whether each live box of a group lies in this one. Where that has to be looked up, what
+    /// bounds the group becomes their hull.
+    fn is_group_inside(&mut self, group: usize, whole: &Box3) -> bool
+        requires { group * 512 < length self.old.boxes.items }
+        ensures same { self.new.boxes.items ≡ self.old.boxes.items }
+        ensures yes { IsTrue result → (id : ℕ) → id / 512 ≡ group
+            → IsIn whole.now self.old.boxes.items id }
+        ensures no { (result ≡ false) → HasBeyond whole.now self.old.boxes.items }
+    {
+        let Some(bound) = self.bounds[group] else {
+            return true;
+        };
+        if lies_in(&bound, whole) {
+            return true;
+        }
+        let from = group * GROUP;
+        let to = self.boxes.len().min(from + GROUP);
+        let Some(hull) = self.hull_within(from, to, whole) else {
+            return false;
+        };
+        self.bounds[group] = hull;
+        true
+    }
+
+    /// The hull of the live boxes from one number up to another, which is none where none of them
+    /// is live. It isn't given where one of them doesn't lie in this box.
+    fn hull_within(&self, from: usize, to: usize, whole: &Box3) -> Option<Option<Box3>>
+        requires { to ≤ length self.now.boxes.items }
+        ensures { MatchOption result
+            (HasBeyond whole.now self.now.boxes.items)
+            (λ hull. (id : ℕ) → from ≤ id → id < to → IsIn whole.now self.now.boxes.items id
+            × IsBoundOf hull self.now.boxes.items id) }
+    {
+        let mut hull = None;
+        'places: for place in from..to {
+            let Some(part) = self.boxes[place] else {
+                continue;
+            };
+            if !lies_in(&part, whole) {
+                return None;
+            }
+            hull = Some(joined(hull, &part));
+        }
+        Some(hull)
     }
 
     /// Takes a step: a cut leaves a part of its box, a split closes its box and opens the two
@@ -137,9 +209,31 @@ impl Live {
             (live_value self.new ≡ boxes_after (live_value self.old) (Split id axis)) }
         ensures err { OnErr result (live_value self.new ≡ live_value self.old) }
     {
-        let (low, high) = self.part_of(id).halves(axis);
+        let part = self.part_of(id);
+        let (low, high) = part.halves(axis);
+        let place = self.boxes.len();
+        self.widen(place, &part)?;
+        self.widen(place + 1, &part)?;
         self.boxes.extend_from_slice(&[Some(low), Some(high)])?;
         self.boxes[id as usize] = None;
+        Ok(())
+    }
+
+    /// Makes what bounds the group of a number hold this box too.
+    fn widen(&mut self, id: usize, part: &Box3) -> Result<(), AllocError>
+        requires { id / 512 ≤ length self.old.bounds.items }
+        ensures same { self.new.boxes.items ≡ self.old.boxes.items }
+        ensures wider { AreWider self.old.bounds.items self.new.bounds.items }
+        ensures there { OnOk result (id / 512 < length self.new.bounds.items) }
+        ensures holds { OnOk result
+            (Holds (slice_index_or self.new.bounds.items (id / 512) None) part.now) }
+    {
+        let group = id / GROUP;
+        if group == self.bounds.len() {
+            self.bounds.push(Some(*part))?;
+        } else {
+            self.bounds[group] = Some(joined(self.bounds[group], part));
+        }
         Ok(())
     }
 

@@ -1,5 +1,5 @@
 -- What the next search of a tube is says what its walk makes.
-use Rattle.std.proofs.Common.{◌≡◌, true, [], refl, sym, ap, subst, ◌∙◌, Option, None, Some, Result, Ok, Err, option_map}
+use Rattle.std.proofs.Common.{◌≡◌, true, [], ◌∷◌, refl, sym, ap, subst, ◌∙◌, Option, None, Some, Result, Ok, Err, option_map}
 use Rattle.std.specs.Prelude.{ℤ, is_some, IfOk, MatchOption, IfSome}
 use Rattle.epoch_selection.specs.Walks.{MakesNone, IsFirst}
 use Rattle.grid_model.specs.Boxes.{GridBox, grid_box}
@@ -9,6 +9,7 @@ use Rattle.grid_model.specs.declared.memory.NoMemory.{NoMemory}
 use Rattle.moving_tube.specs.Hulls.{hull_of, HullLies}
 use Rattle.moving_tube.specs.Roots.{kept_with, kept_of}
 use Rattle.moving_tube.proofs.KeptLemmas.{few_kept}
+use Rattle.moving_tube.proofs.RootLemmas.{hull_through}
 use Rattle.paving_log.specs.CoverBoxes.{cover_of}
 use Rattle.rinex_obs.specs.declared.obs.ObsEpoch.{ObsEpoch}
 use Rattle.sat_model.specs.Contractors.{LiesIn}
@@ -35,9 +36,23 @@ module _ {X : Type 0} (seen : X → ObsEpoch) (root : X → GridBox) (old new : 
     ends = ([], taken_last old (seen x) (root x) new inside m);
   }
 
+  pub walk_epochs : (found : Option X) → Found found → IfSome found (λ x. old.epochs ≡ seen x ∷ new.epochs)
+  walk_epochs None m = tt
+  walk_epochs (Some x) m = m.first
+
   pub walk_root : (found : Option X) → Found found → IfSome found (λ x. LiesIn (root x) new.search)
   walk_root None m = tt
   walk_root (Some x) m = rw m.same_search m.lies
+
+  -- of its root it may keep any part, and nothing
+  pub walk_part : (found : Option X) → Found found
+      → IfSome found (λ x. (part : GridBox) → LiesIn part (root x) → LiesIn part new.search)
+  walk_part None m = tt
+  walk_part (Some x) m = λ part lies. hull_through (Some part) (root x) new.search lies (rw m.same_search m.lies)
+
+  pub walk_nothing : (found : Option X) → IfSome found (λ x. Unit {0})
+  walk_nothing None = tt
+  walk_nothing (Some x) = tt
 
   pub walk_sized : (found : Option X) → Found found → IfSome found (λ x. IsSearchBox (root x))
   walk_sized None m = tt

@@ -1,5 +1,6 @@
 //! The walk of a moving receiver.
 
+ghost use Rattle.epoch_selection.specs.Searches.{epochs_left};
 ghost use Rattle.grid_model.specs.Boxes.{grid_box};
 ghost use Rattle.moving_tube.specs.Hulls.{HullLies};
 ghost use Rattle.moving_tube.specs.Roots.{kept_of};
@@ -16,6 +17,8 @@ use rinex_obs::ObsEpoch;
 use std::alloc::Global;
 
 impl<'a> Walk<'a> for Tube<'a> {
+    ghost epochs = { λ walk. epochs_left walk.searches };
+
     ghost searches = { λ walk blocks. tube_searches (tube_value walk) blocks };
 
     ghost behind = { λ walk tag kept blocks.

@@ -4,67 +4,14 @@
 """
 
 from gpscover.errors import Error, LogError, NumberError
-from gpscover.log import (
-    Box,
-    Epoch,
-    Interval,
-    Kept,
-    Log,
-    Renewal,
-    Row,
-    Rules,
-    Skip,
-    SkipReason,
-    open_log,
-)
+from gpscover.log import Box, Epoch, Interval, Kept, Log, Renewal, Row, Rules, Skip, SkipReason, open_log
 from gpscover.region import Region, region_of
-from gpscover.runs import (
-    ProgramError,
-    Refused,
-    Report,
-    Verdict,
-    check,
-    guard,
-    judge,
-    progress_bar,
-    retrack,
-    solve,
-    track,
-)
-from gpscover.settings import Settings
+from gpscover.runs import ProgramError, Refused, Report, Verdict
+from gpscover.runs import check, guard, judge, progress_bar, retrack, solve, track
+from gpscover.settings import Settings, Station
 from gpscover.zones import Corners, Prism, Reach, read_zones
 
-__all__ = [
-    "Box",
-    "Corners",
-    "Epoch",
-    "Error",
-    "Interval",
-    "Kept",
-    "Log",
-    "LogError",
-    "NumberError",
-    "Prism",
-    "ProgramError",
-    "Reach",
-    "Refused",
-    "Region",
-    "Renewal",
-    "Report",
-    "Row",
-    "Rules",
-    "Settings",
-    "Skip",
-    "SkipReason",
-    "Verdict",
-    "check",
-    "guard",
-    "judge",
-    "open_log",
-    "progress_bar",
-    "read_zones",
-    "region_of",
-    "retrack",
-    "solve",
-    "track",
-]
+__all__ = ["Error", "LogError", "NumberError", "ProgramError", "Refused"]
+__all__ += ["Box", "Epoch", "Interval", "Kept", "Log", "Renewal", "Row", "Rules", "Skip", "SkipReason", "open_log"]
+__all__ += ["Corners", "Prism", "Reach", "read_zones", "Region", "region_of", "Settings", "Station"]
+__all__ += ["Report", "Verdict", "check", "guard", "judge", "progress_bar", "retrack", "solve", "track"]

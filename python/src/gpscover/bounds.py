@@ -3,6 +3,7 @@
 usage: gpslog bounds LOG X Y Z single|dual [options]
        gpslog bounds LOG X Y Z single|dual --every SECONDS --settings SETTINGS --files OBS NAV
                      --folder FOLDER [options]
+       gpslog bounds LOG X Y Z single|dual --station SETTINGS [--more FACTOR]
 
 LOG is what `gpscover solve` writes of the files with `bisections = 0`: its lines have the
 satellites' places. X Y Z is a rough place of the receiver in the earth-fixed frame in metres, good
@@ -34,6 +35,12 @@ is one for each stretch of so many seconds: FOLDER gets part01.toml and so on, w
 to [bounds] with the tables of a stretch behind, and the lines are printed that solve the epochs of
 each part and check them.
 
+With --station, LOG is what `gpscover solve --station` writes by SETTINGS, which have the station's
+place, and X Y Z is a known place of the receiver. What is printed is how large the differences of
+both receivers were, less the median of each epoch, by elevation, and a table [bounds] that holds
+for FACTOR times (1.5) each of them. A station that is over 20 km away, or over 200 m higher or
+lower, is warned of. What was seen in an hour is no bound of another: declare more.
+
 Exit status: 0; 1 where a file can't be read or written, or LOG isn't a whole log, has no
 satellites, or has another search box; 2 for a wrong command line.
 """
@@ -48,6 +55,7 @@ from collections.abc import Iterable, Iterator
 from dataclasses import dataclass, field, fields
 from pathlib import Path
 
+from gpscover import differences
 from gpscover.command import Command, measure, read_text
 from gpscover.errors import Error, UsageError
 from gpscover.geodesy import Vector, elevation
@@ -58,15 +66,10 @@ Pair = tuple[float, float]
 
 EARTH_KM = 6371.0
 OPENED_M = (-1000.0, 1000.0)
-ZENITH_MM, VERTICAL_MM = (
-    10_000,
-    100_000,
-)  # the greatest amounts of delays straight up that the settings take
+ZENITH_MM, VERTICAL_MM = (10_000, 100_000)  # the greatest amounts of delays straight up that the settings take
 SHELL_KM = 350.0  # by which gpscover maps the ionosphere
 PS_PER_S = 10**12
-DUAL_FACTOR = (77**2 + 60**2) / (
-    77**2 - 60**2
-)  # the sum of the amounts of the combination's two coefficients
+DUAL_FACTOR = (77**2 + 60**2) / (77**2 - 60**2)  # the sum of the amounts of the combination's two coefficients
 
 
 @dataclass(frozen=True)
@@ -167,9 +170,7 @@ class Stretch:
     number: int  # of the stretch by its time
     first: int  # the epochs' numbers
     last: int
-    seen: dict[str, Pair] = field(
-        default_factory=dict
-    )  # each satellite's least and greatest elevation in radians
+    seen: dict[str, Pair] = field(default_factory=dict)  # each satellite's least and greatest elevation in radians
 
     def add(self, epoch: Epoch, place: Vector) -> None:
         """Adds an epoch, with a rough place of the receiver."""
@@ -232,8 +233,7 @@ def common_lines(parts: Parts) -> Iterator[str]:
     yield f"ionosphere = {millimetres(left)}"
     low, high = parts.troposphere
     yield (
-        f"# Mapped by elevation: {low:g} to {high:g} m at the zenith, {parts.mapping:.0%} for the"
-        " mapping."
+        f"# Mapped by elevation: {low:g} to {high:g} m at the zenith, {parts.mapping:.0%} for the" " mapping."
         if parts.zenith
         else "# By elevation below."
     )
@@ -241,9 +241,7 @@ def common_lines(parts: Parts) -> Iterator[str]:
     if parts.zenith:
         yield f"zenith = {millimetres(troposphere(1.0, parts))}"
     if parts.vertical:
-        yield "# Mapped by elevation: {:g} to {:g} m at the vertical, on L1.".format(
-            *parts.ionosphere
-        )
+        yield "# Mapped by elevation: {:g} to {:g} m at the vertical, on L1.".format(*parts.ionosphere)
         yield f"vertical = {millimetres(parts.ionosphere)}"
 
 
@@ -252,17 +250,12 @@ def reason_lines(parts: Parts) -> Iterator[str]:
     reasons = []
     if not parts.zenith:
         low, high = parts.troposphere
-        reasons.append(
-            f"zenith troposphere {low:g} to {high:g} m, mapped, {parts.mapping:.0%} for the mapping"
-        )
+        reasons.append(f"zenith troposphere {low:g} to {high:g} m, mapped, {parts.mapping:.0%} for the mapping")
     if parts.mode == "single" and not parts.vertical:
         low, high = parts.ionosphere
-        reasons.append(
-            f"zenith ionosphere {low:g} to {high:g} m on L1, by a thin shell at {parts.shell:g} km"
-        )
+        reasons.append(f"zenith ionosphere {low:g} to {high:g} m on L1, by a thin shell at {parts.shell:g} km")
     reasons.append(
-        f"noise that grows below {parts.rise:g} degrees, to {parts.horizon:g} times as much at the"
-        " horizon"
+        f"noise that grows below {parts.rise:g} degrees, to {parts.horizon:g} times as much at the" " horizon"
     )
     first, *more = (";\n".join(reasons) + ".").split("\n")
     yield f"# Added to the bounds above: {first}"
@@ -272,9 +265,7 @@ def reason_lines(parts: Parts) -> Iterator[str]:
 def satellite_names(seen: Iterable[str]) -> list[str]:
     """The satellites of GPS, and where some of Galileo are seen also those."""
     counts = {"G": 32} | ({"E": 36} if any(name[0] == "E" for name in seen) else {})
-    return [
-        f"{letter}{number:02}" for letter, count in counts.items() for number in range(1, count + 1)
-    ]
+    return [f"{letter}{number:02}" for letter, count in counts.items() for number in range(1, count + 1)]
 
 
 def satellite_lines(seen: dict[str, Pair], parts: Parts) -> Iterator[str]:
@@ -305,9 +296,7 @@ def up_to_bounds(path: PathLike, mode: str) -> str:
     """
     text = read_text(path)
     head, mark, rest = (
-        re.split(r"(?m)^([ \t]*\[bounds\].*)$", text, maxsplit=1)
-        if "[bounds]" in text
-        else (text, "", "")
+        re.split(r"(?m)^([ \t]*\[bounds\].*)$", text, maxsplit=1) if "[bounds]" in text else (text, "", "")
     )
     if not mark or set(re.findall(r"(?m)^[ \t]*\[(.*?)\]", rest)) - {"satellite"}:
         raise Error(f"{path}: the tables [bounds] and [satellite] aren't the last ones")
@@ -323,20 +312,8 @@ def write_parts(found: list[Stretch], parts: Parts, args: argparse.Namespace) ->
     digits = max(2, len(str(len(found))))
     for count, stretch in enumerate(found, 1):
         toml, log = (folder / f"part{count:0{digits}}.{ending}" for ending in ("toml", "log"))
-        toml.write_text(
-            head + "\n".join(tables(stretch.seen, parts)) + "\n", encoding="utf-8", newline="\n"
-        )
-        words = shlex.join(
-            [
-                *args.files,
-                str(toml),
-                str(log),
-                "--from",
-                str(stretch.first),
-                "--to",
-                str(stretch.last),
-            ]
-        )
+        toml.write_text(head + "\n".join(tables(stretch.seen, parts)) + "\n", encoding="utf-8", newline="\n")
+        words = shlex.join([*args.files, str(toml), str(log), "--from", str(stretch.first), "--to", str(stretch.last)])
         yield f"{shlex.quote(args.program)} solve {words} > /dev/null"
         yield f"{shlex.quote(args.program)} check {words}"
 
@@ -352,12 +329,7 @@ def arguments(parser: argparse.ArgumentParser) -> None:
         ("ionosphere", "zenith delay on L1, m (0 6)"),
     ):
         parser.add_argument(
-            f"--{name}",
-            nargs=2,
-            type=measure,
-            default=getattr(Parts, name),
-            metavar=("LOW", "HIGH"),
-            help=more,
+            f"--{name}", nargs=2, type=measure, default=getattr(Parts, name), metavar=("LOW", "HIGH"), help=more
         )
     for name, meaning in (
         ("mapping", "part of the mapped troposphere added at both ends"),
@@ -370,9 +342,7 @@ def arguments(parser: argparse.ArgumentParser) -> None:
         ("mask", "the least elevation at which the delays are mapped, degrees"),
     ):
         default = getattr(Parts, name)
-        parser.add_argument(
-            f"--{name}", type=measure, default=default, help=f"{meaning} ({default:g})", metavar="N"
-        )
+        parser.add_argument(f"--{name}", type=measure, default=default, help=f"{meaning} ({default:g})", metavar="N")
     parser.add_argument(
         "--zenith",
         action="store_true",
@@ -381,29 +351,15 @@ def arguments(parser: argparse.ArgumentParser) -> None:
     parser.add_argument(
         "--vertical",
         action="store_true",
-        help=(
-            "in single mode: print the ionosphere's delay at the vertical, which gpscover maps"
-            " itself"
-        ),
+        help=("in single mode: print the ionosphere's delay at the vertical, which gpscover maps" " itself"),
     )
-    parser.add_argument(
-        "--every",
-        type=measure,
-        metavar="SECONDS",
-        help="a table for each stretch of so many seconds",
-    )
-    parser.add_argument(
-        "--settings", metavar="SETTINGS", help="with --every: the settings that get these tables"
-    )
-    parser.add_argument(
-        "--files", nargs=2, metavar=("OBS", "NAV"), help="with --every: the files that are solved"
-    )
-    parser.add_argument(
-        "--folder", help="with --every: where the settings and logs of the parts stand"
-    )
-    parser.add_argument(
-        "--program", default="./gpscover", help="with --every: the program (./gpscover)"
-    )
+    parser.add_argument("--every", type=measure, metavar="SECONDS", help="a table for each stretch of so many seconds")
+    parser.add_argument("--settings", metavar="SETTINGS", help="with --every: the settings that get these tables")
+    parser.add_argument("--files", nargs=2, metavar=("OBS", "NAV"), help="with --every: the files that are solved")
+    parser.add_argument("--folder", help="with --every: where the settings and logs of the parts stand")
+    parser.add_argument("--program", default="./gpscover", help="with --every: the program (./gpscover)")
+    parser.add_argument("--station", metavar="SETTINGS", help="bounds of differences: the settings of LOG")
+    parser.add_argument("--more", type=measure, default=1.5, metavar="FACTOR", help="with --station (1.5)")
 
 
 def parts_of(args: argparse.Namespace) -> Parts:
@@ -417,23 +373,23 @@ def parts_of(args: argparse.Namespace) -> Parts:
     if parts.shell < 1:
         raise UsageError("the ionosphere's shell is at least 1 km high")
     if parts.zenith and most_millimetres(troposphere(1.0, parts)) > ZENITH_MM:
-        raise UsageError(
-            f"with --zenith the troposphere's delay at the zenith is within {ZENITH_MM / 1000:g} m"
-        )
+        raise UsageError(f"with --zenith the troposphere's delay at the zenith is within {ZENITH_MM / 1000:g} m")
     if parts.vertical and (parts.mode == "dual" or parts.shell != SHELL_KM):
         raise UsageError(f"--vertical is for single mode and a shell at {SHELL_KM:g} km")
     if parts.vertical and most_millimetres(parts.ionosphere) > VERTICAL_MM:
         raise UsageError(
-            "with --vertical the ionosphere's delay at the vertical is within"
-            f" {VERTICAL_MM / 1000:g} m"
+            "with --vertical the ionosphere's delay at the vertical is within" f" {VERTICAL_MM / 1000:g} m"
         )
     return parts
 
 
 def run(args: argparse.Namespace) -> int:
     """Prints the tables, or writes those of each stretch. The status."""
-    parts = parts_of(args)
-    found = stretches(args.log, (args.x, args.y, args.z), args.every)
+    parts, place = parts_of(args), (args.x, args.y, args.z)
+    if args.station is not None:
+        print(*differences.tables(args.log, place, args.station, args.more), sep="\n")
+        return 0
+    found = stretches(args.log, place, args.every)
     whole = args.every is None
     print(*(tables(found[0].seen, parts) if whole else write_parts(found, parts, args)), sep="\n")
     return 0

@@ -40,6 +40,30 @@ def measure(word: object) -> float:
     return value
 
 
+def name_ending(*endings: str, told: str) -> Callable[[str], str]:
+    """A reader of a file's name with one of these endings; `told` is what a user hears of them."""
+
+    def name_of(word: str) -> str:
+        if not word.endswith(endings):
+            raise argparse.ArgumentTypeError(f"OUT ends with {told}")
+        return word
+
+    return name_of
+
+
+def absent(library: str, rest: str = "") -> Error:
+    """The error of a library that isn't there, with how to get it and what to call then."""
+    return Error(
+        f"{sys.executable} has no {library}; Debian: apt-get install python3-{library}, then /usr/bin/python3 {rest}.."
+    )
+
+
+def work_of(args: argparse.Namespace) -> int:
+    """Does the work of the way that the words named. The status."""
+    args.work(args)
+    return 0
+
+
 def read_text(path: PathLike) -> str:
     """The text of a file. Error where it isn't UTF-8."""
     try:

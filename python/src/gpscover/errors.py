@@ -4,8 +4,6 @@ from __future__ import annotations
 
 import argparse
 
-__all__ = ["Error", "LogError", "NumberError", "UsageError"]
-
 
 class Error(Exception):
     """What can't be read, written or done."""

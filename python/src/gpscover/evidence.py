@@ -1,7 +1,7 @@
 """Puts the evidence of a run together in one folder, and checks a bundle that somebody else made.
 
-usage: gpslog evidence make FOLDER OBS NAV SETTINGS LOG [--track] [--from N] [--to N] [--program
-GPSCOVER]
+usage: gpslog evidence make FOLDER OBS NAV SETTINGS LOG [--station STATION] [--track] [--from N]
+[--to N] [--program GPSCOVER]
        gpslog evidence check FOLDER [--sha256 HEX] [--other-program] [--program GPSCOVER]
 
 `make` copies the four files into a new FOLDER, has both checkers test the log, GPSCOVER (the
@@ -10,12 +10,13 @@ checksums of the files and of both checkers, the versions, the options, both ver
 epochs the observations have, and of these are in the log, paved, few, empty, reach the search box,
 or are left out, which are those that the log doesn't have. --from and --to are those that the log
 was solved with. --track says that it is one of `track`: it is checked as one, by `retrack` and by
-recheck.py --track, and where it ends with an epoch that keeps no box this one is named. Where not
-both checkers say yes, of as many boxes, there is no evidence: nothing is left, and the verdicts are
+recheck.py --track, and where it ends with an epoch that keeps no box this one is named. --station
+names the observation file of the station of a log that was solved with one: it is a fifth file of
+the bundle, and both checkers are given it. Where not both checkers say yes, of as many boxes, there is no evidence: nothing is left, and the verdicts are
 printed. The checksum of evidence.txt, which is printed last, is what is signed or sent by another
 way.
 
-`check` makes all of this anew from the four files and tells each line of evidence.txt that is
+`check` makes all of this anew from these files and tells each line of evidence.txt that is
 another, each file that is missing and each that doesn't belong there. Where anything in FOLDER
 isn't a file of its own, but a link, a folder or a device, nothing of it is read. --sha256 compares
 the checksum of evidence.txt too. Where the checkers or the versions here are others, that is told
@@ -53,12 +54,8 @@ Lines = list[tuple[str, str]]  # name, and what is found
 
 SECOND = "second/recheck.py"  # from the top of the repository
 SHEET = "evidence.txt"
-FILES = {
-    "obs": "receiver.obs",
-    "nav": "receiver.nav",
-    "settings": "settings.toml",
-    "log": "receiver.log",
-}
+FILES = {"obs": "receiver.obs", "nav": "receiver.nav", "settings": "settings.toml", "log": "receiver.log"}
+STATION = {"station": "station.obs"}  # where there is one
 HEAD = "gpscover evidence 1"
 ITSELF = ("program", "second", "version")  # the lines that say who checked
 GREATEST = 200_000  # the greatest epoch number
@@ -67,11 +64,21 @@ OPTIONS = re.compile(r"(--track )?--from ([1-9]\d{0,5}) --to ([1-9]\d{0,5})", re
 
 @dataclass
 class Options:
-    """What a log was made with: its first and its last epoch, and whether it is one of `track`."""
+    """What a log was made with: its first and its last epoch, whether it is one of `track`, and
+    whether there was a station."""
 
     first: int
     last: int
     track: bool = False
+    station: bool = False
+
+    def files(self) -> dict[str, str]:
+        """The names of the files by their roles."""
+        return FILES | STATION if self.station else FILES
+
+    def station_words(self, folder: Path) -> list[str]:
+        """The words that name the station's file, for both checkers."""
+        return ["--station", str(folder / STATION["station"])] if self.station else []
 
     def command(self) -> str:
         """The program's command that checks it."""
@@ -151,14 +158,15 @@ def made(folder: Path, program: str, second: Path, options: Options) -> Lines:
     """The lines of the evidence in order."""
     files = [str(folder / name) for name in FILES.values()]
     command, chosen = options.command(), options.epochs()
-    again = [sys.executable, str(second), *options.track_words(), *files, *chosen]
+    words = [*files, *chosen, *options.station_words(folder)]
+    again = [sys.executable, str(second), *options.track_words(), *words]
     return [
-        *((role, f"{name} {identity(folder / name)}") for role, name in FILES.items()),
+        *((role, f"{name} {identity(folder / name)}") for role, name in options.files().items()),
         ("program", identity(program)),
         ("second", identity(second)),
         ("version", version(program)),
         ("options", " ".join(options.track_words() + chosen)),
-        (command, verdict([program, command, *files, *chosen])),
+        (command, verdict([program, command, *words])),
         ("recheck", verdict(again)),
         ("epochs", counts(folder, options)),
     ]
@@ -178,13 +186,13 @@ def dissent(said: dict[str, str], command: str) -> str:
 
 def run_make(args: argparse.Namespace) -> None:
     """Makes a bundle."""
-    folder, options = Path(args.bundle), Options(args.first, args.last, args.track)
+    folder, has_station = Path(args.bundle), args.station is not None
+    options = Options(args.first, args.last, args.track, has_station)
+    paths = [args.obs, args.nav, args.settings, args.log, *([args.station] * has_station)]
     program = str(args.program or own_program())
     folder.mkdir()
     try:
-        lines = fill(
-            folder, (args.obs, args.nav, args.settings, args.log), program, home() / SECOND, options
-        )
+        lines = fill(folder, paths, program, home() / SECOND, options)
     except BaseException:
         shutil.rmtree(folder)
         raise
@@ -192,11 +200,9 @@ def run_make(args: argparse.Namespace) -> None:
     print(f"{SHEET} sha256 {checksum(folder / SHEET)}")
 
 
-def fill(
-    folder: Path, paths: Sequence[PathLike], program: str, second: Path, options: Options
-) -> Lines:
+def fill(folder: Path, paths: Sequence[PathLike], program: str, second: Path, options: Options) -> Lines:
     """Puts the files of a bundle and its evidence into a folder. The evidence's lines."""
-    for path, name in zip(paths, FILES.values()):
+    for path, name in zip(paths, options.files().values()):
         shutil.copyfile(path, folder / name)
     lines = made(folder, program, second, options)
     if told := dissent(dict(lines), options.command()):
@@ -214,7 +220,7 @@ def read_sheet(folder: Path) -> tuple[Lines, Options]:
     if lines[:1] != [HEAD] or not found or max(map(int, found.groups()[1:])) > GREATEST:
         raise Error(f"{folder / SHEET}: this isn't evidence of gpscover, or it was changed")
     track, first, last = found.groups()
-    return said, Options(int(first), int(last), bool(track))
+    return said, Options(int(first), int(last), bool(track), "station" in dict(said))
 
 
 def differences(said: Lines, found: Lines, is_other: bool) -> Iterator[str]:
@@ -232,14 +238,12 @@ def refuse_links(folder: Path) -> None:
     never end."""
     for path in sorted(folder.iterdir()):
         if not stat.S_ISREG(path.lstat().st_mode):
-            raise Error(
-                f"{path} isn't a file of the bundle's own, but a link, a folder or a device"
-            )
+            raise Error(f"{path} isn't a file of the bundle's own, but a link, a folder or a device")
 
 
-def strangers(folder: Path) -> Iterator[str]:
+def strangers(folder: Path, options: Options) -> Iterator[str]:
     """The files of a bundle that are missing, and those that don't belong there."""
-    wanted, there = {*FILES.values(), SHEET}, {path.name for path in folder.iterdir()}
+    wanted, there = {*options.files().values(), SHEET}, {path.name for path in folder.iterdir()}
     yield from (f"{name} is missing" for name in sorted(wanted - there))
     yield from (f"{name} doesn't belong to the bundle" for name in sorted(there - wanted))
 
@@ -250,7 +254,7 @@ def run_check(args: argparse.Namespace) -> None:
     refuse_links(folder)
     said, options = read_sheet(folder)
     found = made(folder, str(args.program or own_program()), home() / SECOND, options)
-    told = [*strangers(folder), *differences(said, found, args.other_program)]
+    told = [*strangers(folder, options), *differences(said, found, args.other_program)]
     if args.sha256 not in (None, checksum(folder / SHEET)):
         told.append(f"{SHEET} has the checksum {checksum(folder / SHEET)}")
     now = dict(found)
@@ -271,9 +275,7 @@ def epoch_number(text: str) -> int:
 def arguments(parser: argparse.ArgumentParser) -> None:
     """The words of the command line."""
     ways = parser.add_subparsers(required=True)
-    make = ways.add_parser(
-        "make", help="copy the files, check the log twice, and write what was found"
-    )
+    make = ways.add_parser("make", help="copy the files, check the log twice, and write what was found")
     check = ways.add_parser("check", help="find all of it anew and compare")
     for way, work in ((make, run_make), (check, run_check)):
         way.add_argument("bundle", metavar="FOLDER")
@@ -281,27 +283,16 @@ def arguments(parser: argparse.ArgumentParser) -> None:
         way.set_defaults(work=work)
     for name in ("obs", "nav", "settings", "log"):
         make.add_argument(name, metavar=name.upper())
+    make.add_argument("--station", help="the observation file of the station, if there was one")
     make.add_argument("--track", action="store_true", help="the log is one of `track`")
     make.add_argument(
-        "--from",
-        dest="first",
-        type=epoch_number,
-        default=1,
-        metavar="N",
-        help="the log's first epoch (1)",
+        "--from", dest="first", type=epoch_number, default=1, metavar="N", help="the log's first epoch (1)"
     )
     make.add_argument(
-        "--to",
-        dest="last",
-        type=epoch_number,
-        default=GREATEST,
-        metavar="N",
-        help=f"its last one ({GREATEST})",
+        "--to", dest="last", type=epoch_number, default=GREATEST, metavar="N", help=f"its last one ({GREATEST})"
     )
     check.add_argument("--sha256", metavar="HEX", help=f"the checksum that {SHEET} has to have")
-    check.add_argument(
-        "--other-program", action="store_true", help="let the checkers and versions here be others"
-    )
+    check.add_argument("--other-program", action="store_true", help="let the checkers and versions here be others")
 
 
 def run(args: argparse.Namespace) -> int:

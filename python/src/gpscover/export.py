@@ -16,12 +16,11 @@ from __future__ import annotations
 
 import argparse
 import csv
-import sys
 from collections.abc import Callable
 from pathlib import Path
 
 from gpscover import frames, geojson, kml
-from gpscover.command import Command, whole_file
+from gpscover.command import Command, absent, whole_file
 from gpscover.errors import Error
 from gpscover.log import epochs, open_log
 from gpscover.region import region_or_none
@@ -59,9 +58,15 @@ def write_geopackage(log: str, out: str) -> None:
     try:
         import geopandas
     except ImportError:
-        raise Error(f"{sys.executable} has no geopandas, which a GeoPackage needs") from None
-    frame = geopandas.GeoDataFrame.from_features(list(geojson.features(log)), crs="EPSG:4326")
-    frame.to_file(out, driver="GPKG", layer="regions")
+        raise absent("geopandas", "-m gpscover export ") from None
+    found = list(geojson.features(log))
+    if not found:
+        raise Error(f"{log} has no epochs")
+    frame = geopandas.GeoDataFrame.from_features(found, crs="EPSG:4326")
+    try:
+        frame.to_file(out, driver="GPKG", layer="regions")
+    except (ValueError, RuntimeError) as error:  # as GDAL tells of a file that it can't write
+        raise Error(f"{out}: {error}") from None
 
 
 def write_parquet(log: str, out: str) -> None:

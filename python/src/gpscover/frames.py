@@ -3,11 +3,10 @@
 from __future__ import annotations
 
 import argparse
-import sys
 from collections.abc import Callable, Iterable
 from typing import TYPE_CHECKING, Any
 
-from gpscover.command import Command
+from gpscover.command import Command, absent, name_ending
 from gpscover.errors import Error
 from gpscover.log import Epoch, Log, open_log
 from gpscover.region import region_or_none
@@ -19,16 +18,11 @@ if TYPE_CHECKING:
 
 EPOCH_COLUMNS = "epoch time ps mark satellites outliers inner edge out splits".split()
 REGION_COLUMNS = (
-    "east_m north_m up_m clock_low_m clock_high_m volume_m3 latitude_rad longitude_rad height_m"
-    " x_m y_m z_m faces"
+    "east_m north_m up_m clock_low_m clock_high_m volume_m3 latitude_rad longitude_rad height_m x_m y_m z_m faces"
 ).split()
 ENDS = [f"{axis}_{end}_um" for end in ("low", "high") for axis in "xyz"]
 BOX_COLUMNS = ["epoch", "time", "inner", *ENDS, "clock_low_um", "clock_high_um"]
-ROW_ENDS = [
-    f"{name}_{end}_um"
-    for name in ("x", "y", "z", "range", "error", "sure")
-    for end in ("low", "high")
-]
+ROW_ENDS = [f"{name}_{end}_um" for name in ("x", "y", "z", "range", "error", "sure") for end in ("low", "high")]
 ROW_COLUMNS = ["epoch", "time", "satellite", *ROW_ENDS]
 
 
@@ -37,10 +31,7 @@ def library() -> Any:
     try:
         import pandas
     except ImportError:
-        raise Error(
-            f"{sys.executable} has no pandas; Debian: apt-get install python3-pandas,"
-            " then /usr/bin/python3 .."
-        ) from None
+        raise absent("pandas") from None
     return pandas
 
 
@@ -71,32 +62,48 @@ def epochs_frame(log: Log) -> pandas.DataFrame:
     return frame_of(EPOCH_COLUMNS + REGION_COLUMNS, map(epoch_row, log))
 
 
+def numbers(values: list[Any]) -> Any:
+    """Whole numbers as an array, of 64 bits each where all of them fit."""
+    import numpy
+
+    try:
+        return numpy.array(values, dtype=numpy.int64)
+    except OverflowError:
+        return numpy.array(values, dtype=object)
+
+
 def boxes_frame(log: Log) -> pandas.DataFrame:
-    """A row a kept box, in um: its ends, and its span of clock offsets."""
-    rows = (
-        (epoch.index, time, kept.inner, *kept.box, *kept.clock)
-        for epoch, time in ((epoch, epoch.time) for epoch in log)
-        for kept in epoch.kept
-    )
-    return frame_of(BOX_COLUMNS, rows)
+    """A row a kept box, in um: its ends, and its span of clock offsets.
+
+    A day has some hundred thousand boxes: those of an epoch are an array before the next one is read.
+    """
+    pandas = library()
+    import numpy
+
+    heads: list[tuple[Any, ...]] = []
+    spans, inner, positions = [numbers([]).reshape(0, len(BOX_COLUMNS) - 3)], [], []
+    for position, epoch in enumerate(log):
+        heads.append((epoch.index, epoch.time))
+        positions += [position] * len(epoch.kept)
+        inner += [kept.inner for kept in epoch.kept]
+        if epoch.kept:
+            spans.append(numbers([(*kept.box, *kept.clock) for kept in epoch.kept]))
+    head = frame_of(BOX_COLUMNS[:2], heads).iloc[positions].reset_index(drop=True)
+    ends = pandas.DataFrame(numpy.concatenate(spans), columns=BOX_COLUMNS[3:])
+    return pandas.concat([head.assign(inner=numpy.array(inner, dtype=bool)), ends], axis=1)
 
 
 def rows_frame(log: Log) -> pandas.DataFrame:
     """A row a usable satellite of each epoch, in um: its spans over the search box."""
     rows = (
-        (epoch.index, epoch.time, row.satellite, *sum(row.place, ()), *row.range, *row.error)
-        + tuple(row.sure)
+        (epoch.index, epoch.time, row.satellite, *sum(row.place, ()), *row.range, *row.error) + tuple(row.sure)
         for epoch in log
         for row in epoch.rows
     )
     return frame_of(ROW_COLUMNS, rows)
 
 
-KINDS: dict[str, Callable[[Log], Any]] = {
-    "epochs": epochs_frame,
-    "boxes": boxes_frame,
-    "rows": rows_frame,
-}
+KINDS: dict[str, Callable[[Log], Any]] = {"epochs": epochs_frame, "boxes": boxes_frame, "rows": rows_frame}
 
 
 def write_frame(frame: Any, path: str) -> None:
@@ -107,20 +114,13 @@ def write_frame(frame: Any, path: str) -> None:
     try:
         frame.astype({"ps": str} if "ps" in frame else {}).to_parquet(path)
     except ImportError:
-        raise Error("Parquet needs pyarrow or fastparquet") from None
-
-
-def frame_name(name: str) -> str:
-    """A file's name that ends with .csv or .parquet."""
-    if not name.endswith((".csv", ".parquet")):
-        raise argparse.ArgumentTypeError("OUT ends with .csv or .parquet")
-    return name
+        raise Error("Parquet needs pyarrow or fastparquet; Debian 12 has neither, pip has both") from None
 
 
 def arguments(parser: argparse.ArgumentParser) -> None:
     """The words of the command line."""
     parser.add_argument("log", metavar="LOG")
-    parser.add_argument("out", metavar="OUT", type=frame_name)
+    parser.add_argument("out", metavar="OUT", type=name_ending(".csv", ".parquet", told=".csv or .parquet"))
     parser.add_argument("--of", choices=KINDS, default="epochs", help="what a row is of (epochs)")
 
 

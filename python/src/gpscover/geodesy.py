@@ -7,6 +7,7 @@ from __future__ import annotations
 
 import math
 from collections.abc import Sequence
+from dataclasses import dataclass
 
 Vector = tuple[float, float, float]
 Axes = tuple[Vector, Vector, Vector]
@@ -27,8 +28,10 @@ def geodetic(point: Sequence[float]) -> Vector:
     from_axis = math.hypot(x, y)
     latitude = math.atan2(z, from_axis * (1 - ECCENTRICITY_2))
     for _ in range(10):
-        raised = z + ECCENTRICITY_2 * prime_vertical(latitude) * math.sin(latitude)
+        before, raised = latitude, z + ECCENTRICITY_2 * prime_vertical(latitude) * math.sin(latitude)
         latitude = math.atan2(raised, from_axis)
+        if latitude == before:  # so would it be in each further round
+            break
     sine, cosine = math.sin(latitude), math.cos(latitude)
     height = from_axis * cosine + z * sine - SEMI_MAJOR_M**2 / prime_vertical(latitude)
     return latitude, math.atan2(y, x), height
@@ -57,20 +60,42 @@ def dot(a: Sequence[float], b: Sequence[float]) -> float:
     return a[0] * b[0] + a[1] * b[1] + a[2] * b[2]
 
 
-def elevation(place: Sequence[float], target: Sequence[float]) -> float:
+@dataclass
+class Frame:
+    """East, north and up in metres from a point."""
+
+    origin: Vector
+    axes: Axes  # the unit vectors east, north, up
+
+    @classmethod
+    def at(cls, origin: Vector) -> Frame:
+        """The frame at a point, with the axes of that point."""
+        return Frame(origin, local_axes(*geodetic(origin)[:2]))
+
+    def offset(self, point: Sequence[float]) -> Vector:
+        """East, north and up of a point."""
+        apart = [p - o for p, o in zip(point, self.origin)]
+        east, north, up = (dot(axis, apart) for axis in self.axes)
+        return east, north, up
+
+    def direction(self, parts: Sequence[float]) -> Vector:
+        """A vector of east, north and up parts in the earth-fixed frame."""
+        x, y, z = (sum(part * axis[k] for part, axis in zip(parts, self.axes)) for k in range(3))
+        return x, y, z
+
+    def point(self, offset: Sequence[float]) -> Vector:
+        """The point at an offset along east, north and up."""
+        x, y, z = (o + d for o, d in zip(self.origin, self.direction(offset)))
+        return x, y, z
+
+
+def elevation(place: Vector, target: Sequence[float]) -> float:
     """The angle at which `target` is seen above the horizon of `place`; 0 where they are one."""
-    latitude, longitude, _ = geodetic(place)
-    toward = [t - p for t, p in zip(target, place)]
-    up = local_axes(latitude, longitude)[2]
-    sine = dot(toward, up) / (math.hypot(*toward) or 1.0)
+    sine = Frame.at(place).offset(target)[2] / (math.dist(target, place) or 1.0)
     return math.asin(max(-1.0, min(1.0, sine)))
 
 
-def azimuth(place: Sequence[float], target: Sequence[float]) -> float:
-    """The direction along the horizon of `place` in which `target` is seen: from north over east, 0
-    to 2 pi.
-    """
-    latitude, longitude, _ = geodetic(place)
-    toward = [t - p for t, p in zip(target, place)]
-    east, north, _ = local_axes(latitude, longitude)
-    return math.atan2(dot(toward, east), dot(toward, north)) % (2 * math.pi)
+def azimuth(place: Vector, target: Sequence[float]) -> float:
+    """The direction along the horizon of `place` in which `target` is seen: from north over east, 0 to 2 pi."""
+    east, north, _ = Frame.at(place).offset(target)
+    return math.atan2(east, north) % (2 * math.pi)

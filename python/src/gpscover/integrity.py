@@ -1,23 +1,22 @@
-"""What a region says of a known place: whether it is in a kept box, and how far the boxes reach
-from it.
+"""What a region says of a known place: whether it is in a kept box, and how far the boxes reach from it.
 
-All lengths are of the declared bounds and hold while these do; none of them is of a probability. A
-receiver doesn't know its place. So what a user of the region can do is judged by its middle: the
-middle is the position that is reported, the farthest corner from it the protection, and how far it
-is from the known place the error.
+All lengths are of the declared bounds and hold while these do; none of them is of a probability. A receiver doesn't
+know its place. So what a user of the region can do is judged by its middle: the middle is the position that is
+reported, the farthest corner from it the protection, and how far it is from the known place the error.
 """
 
 from __future__ import annotations
 
+import argparse
 import math
 from collections.abc import Iterator, Sequence
 from dataclasses import dataclass
 
 from gpscover.command import measure
-from gpscover.geodesy import Vector, dot, geodetic, local_axes
+from gpscover.geodesy import Frame, Vector, dot
 from gpscover.log import UM_PER_M, Epoch
 from gpscover.places import Meetings, Place, direction
-from gpscover.region import Region, extent_along, half_sides, offset_of, upward
+from gpscover.region import Region, extent_along, half_sides, offsets, upward
 
 Pair = tuple[float, float]  # along the ground, and up or down; in m
 
@@ -55,9 +54,7 @@ class Numbers:
         return not cut and limits.hold(self.reach)
 
     def is_hazardous(self, limits: Limits, cut: bool) -> bool:
-        """Whether the middle is farther from the place than a limit, and the region says that it
-        isn't.
-        """
+        """Whether the middle is farther from the place than a limit, and the region says that it isn't."""
         return self.is_available(limits, cut) and not limits.hold(self.error)
 
 
@@ -67,6 +64,12 @@ def alert_limit(text: str) -> float:
     if length <= 0:
         raise ValueError
     return length
+
+
+def limit_argument(parser: argparse.ArgumentParser) -> None:
+    """The word of the two alert limits."""
+    told = "alert limits along the ground and up, m"
+    parser.add_argument("--limit", type=alert_limit, nargs=2, metavar=("H", "V"), help=told)
 
 
 def in_um(point: Sequence[float]) -> list[int]:
@@ -84,25 +87,17 @@ def in_search_box(epoch: Epoch, point: Vector) -> bool:
     return epoch.search is not None and epoch.search.contains(point)
 
 
-def farthest_along_ground(
-    centres: list[Vector], halves: list[Vector], east: Vector, north: Vector
-) -> float:
+def farthest_along_ground(centres: list[Vector], halves: list[Vector], east: Vector, north: Vector) -> float:
     """How far the farthest of the boxes' corners is from the origin along the ground.
 
-    A box is seen from above as its middle c and the half sides v of three directions; its corners
-    are c + w and c - w for the four w = v0 +- v1 +- v2, and the farther of these two is at
-    sqrt(|c|^2 + |w|^2 + 2 |c w|).
+    A box is seen from above as its middle c and the half sides v of three directions; its corners are c + w and c - w
+    for the four w = v0 +- v1 +- v2, and the farther of these two is at sqrt(|c|^2 + |w|^2 + 2 |c w|).
     """
     most = 0.0
     for centre, half in zip(centres, halves):
         x, y = dot(east, centre), dot(north, centre)
         (a, b), (c, d), (e, f) = ((size * east[k], size * north[k]) for k, size in enumerate(half))
-        for p, q in (
-            (a + c + e, b + d + f),
-            (a + c - e, b + d - f),
-            (a - c + e, b - d + f),
-            (a - c - e, b - d - f),
-        ):
+        for p, q in ((a + c + e, b + d + f), (a + c - e, b + d - f), (a - c + e, b - d + f), (a - c - e, b - d - f)):
             most = max(most, x * x + y * y + p * p + q * q + 2 * abs(x * p + y * q))
     return math.sqrt(most)
 
@@ -112,8 +107,8 @@ class Corners:
 
     def __init__(self, epoch: Epoch, point: Vector) -> None:
         origin = in_um(point)
-        self.east, self.north, self.up = local_axes(*geodetic(point)[:2])
-        self.centres = [offset_of(kept.box, origin) for kept in epoch.kept]
+        self.east, self.north, self.up = Frame.at(point).axes
+        self.centres = offsets(epoch.boxes, origin)
         self.halves = [half_sides(kept.box) for kept in epoch.kept]
 
     def farthest(self, axis: Sequence[float]) -> float:
@@ -123,9 +118,7 @@ class Corners:
 
     def pair(self) -> Pair:
         """The farthest corner along the ground, and the farthest one up or down."""
-        return farthest_along_ground(
-            self.centres, self.halves, self.east, self.north
-        ), self.farthest(self.up)
+        return farthest_along_ground(self.centres, self.halves, self.east, self.north), self.farthest(self.up)
 
     def along_across(self, azimuth: float) -> Pair:
         """The farthest corners along an azimuth in radians, and across it along the ground."""
@@ -137,19 +130,14 @@ class Corners:
 
 def apart(place: Vector, point: Vector) -> Pair:
     """How far a point is from a place along the ground, and up or down, in m."""
-    east, north, up = local_axes(*geodetic(place)[:2])
-    way = [b - a for a, b in zip(place, point)]
-    return math.hypot(dot(east, way), dot(north, way)), abs(dot(up, way))
+    east, north, up = Frame.at(place).offset(point)
+    return math.hypot(east, north), abs(up)
 
 
-def numbers_of(
-    epoch: Epoch, region: Region, place: Vector, azimuth: float | None = None
-) -> Numbers:
+def numbers_of(epoch: Epoch, region: Region, place: Vector, azimuth: float | None = None) -> Numbers:
     """The numbers of an epoch that has a region, for a known place in m."""
     corners, middle = Corners(epoch, place), region.middle()
-    found = Numbers(
-        is_held(epoch, place), *corners.pair(), apart(place, middle), Corners(epoch, middle).pair()
-    )
+    found = Numbers(is_held(epoch, place), *corners.pair(), apart(place, middle), Corners(epoch, middle).pair())
     if azimuth is not None:
         found.azimuth = azimuth
         found.along, found.across = corners.along_across(azimuth)
@@ -213,8 +201,7 @@ class Judge:
         """How many regions hold the known place."""
         known = self.epochs - self.placeless
         return (
-            f"known places: {known} epochs have one and {self.regions} of these a region, which"
-            f" holds it in {self.held}"
+            f"known places: {known} epochs have one and {self.regions} of these a region, which holds it in {self.held}"
         )
 
     def limit_lines(self) -> Iterator[str]:
@@ -242,11 +229,7 @@ class Judge:
     def warnings(self) -> Iterator[str]:
         """What must not be passed over."""
         if self.lost:
-            where = (
-                f", in {self.outside_box} of these since it is outside the search box"
-                if self.outside_box
-                else ""
-            )
+            where = f", in {self.outside_box} of these since it is outside the search box" if self.outside_box else ""
             yield (
                 f"in {len(self.lost)} of {self.regions} regions the known place isn't in a kept"
                 f" box{where}; the first is epoch {self.lost[0]}: more satellites than allowed"

@@ -1,9 +1,8 @@
-"""Regions for a map, in KML 2.2: a placemark for each epoch, with its time, its heights and a style
-by its mark.
+"""Regions for a map, in KML 2.2: a placemark for each epoch, with its time, its heights and a style by its mark.
 
-An epoch with a region is its outline as seen from above, twice, at its least and its greatest
-height. Times are UTC, as KML wants them. Heights are those above the ellipsoid of WGS 84; a map
-takes them for heights above the sea, which differ from them by up to 107 m.
+An epoch with a region is its outline as seen from above, twice, at its least and its greatest height. Times are UTC, as
+KML wants them. Heights are those above the ellipsoid of WGS 84; a map takes them for heights above the sea, which
+differ from them by up to 107 m.
 """
 
 from __future__ import annotations
@@ -39,10 +38,7 @@ def head() -> str:
         f"<PolyStyle><color>{area}</color></PolyStyle></Style>\n"
         for name, line, area in dict.fromkeys(STYLES.values())
     )
-    return (
-        '<?xml version="1.0" encoding="UTF-8"?>\n<kml'
-        f' xmlns="http://www.opengis.net/kml/2.2"><Document>\n{styles}'
-    )
+    return f'<?xml version="1.0" encoding="UTF-8"?>\n<kml xmlns="http://www.opengis.net/kml/2.2"><Document>\n{styles}'
 
 
 def leap_seconds(when: datetime.datetime) -> int:
@@ -62,18 +58,14 @@ def utc(ps: int) -> str:
 
 
 def ground_ring(region: Region, corners: list[Flat]) -> list[tuple[float, float]]:
-    """An outline of corners (east, north) as (latitude, longitude) in degrees, the first one again
-    at the end.
-    """
+    """An outline of corners (east, north) as (latitude, longitude) in degrees, the first one again at the end."""
     points = (geodetic(region.point((east, north, 0.0))) for east, north in corners + corners[:1])
     return [(math.degrees(latitude), math.degrees(longitude)) for latitude, longitude, _ in points]
 
 
 def polygon(ring: list[tuple[float, float]], height: float) -> str:
     """A ring of (latitude, longitude) in degrees at a height in m."""
-    points = " ".join(
-        f"{longitude:.9f},{latitude:.9f},{height:.3f}" for latitude, longitude in ring
-    )
+    points = " ".join(f"{longitude:.9f},{latitude:.9f},{height:.3f}" for latitude, longitude in ring)
     return (
         "<Polygon><altitudeMode>absolute</altitudeMode><outerBoundaryIs><LinearRing><coordinates>"
         f"{points}</coordinates></LinearRing></outerBoundaryIs></Polygon>"
@@ -81,9 +73,7 @@ def polygon(ring: list[tuple[float, float]], height: float) -> str:
 
 
 def heights(region: Region) -> tuple[float, float]:
-    """The least and the greatest height above the ellipsoid in m, along the up direction of the
-    region's origin.
-    """
+    """The least and the greatest height above the ellipsoid in m, along the up direction of the region's origin."""
     height = geodetic(region.origin)[2]
     low, high = region.extents[2]
     return height + low, height + high
@@ -93,11 +83,7 @@ def geometry(epoch: Epoch, region: Region) -> str:
     """The outline of a region at its least and its greatest height."""
     east, north, _ = region.axes
     ring = ground_ring(region, outline(epoch.boxes, region.origin, east, north))
-    return (
-        "<MultiGeometry>"
-        + "".join(polygon(ring, height) for height in heights(region))
-        + "</MultiGeometry>"
-    )
+    return "<MultiGeometry>" + "".join(polygon(ring, height) for height in heights(region)) + "</MultiGeometry>"
 
 
 def words(epoch: Epoch, region: Region | None, mark: str) -> str:
@@ -108,10 +94,7 @@ def words(epoch: Epoch, region: Region | None, mark: str) -> str:
     east, north, up = (upward(width) for width in region.widths())
     low, high = heights(region)
     cut = f", reaches the search box at {' '.join(region.faces)}" if region.faces else ""
-    return (
-        f"{said}, east {east:.1f} m, north {north:.1f} m, up {up:.1f} m, height {low:.1f} to"
-        f" {high:.1f} m{cut}"
-    )
+    return f"{said}, east {east:.1f} m, north {north:.1f} m, up {up:.1f} m, height {low:.1f} to {high:.1f} m{cut}"
 
 
 def placemark(epoch: Epoch, region: Region | None, mark: str) -> str:

@@ -27,28 +27,6 @@ from gpscover.errors import LogError
 if TYPE_CHECKING:
     import pandas
 
-__all__ = [
-    "Box",
-    "Epoch",
-    "Interval",
-    "Kept",
-    "Log",
-    "PS_PER_MS",
-    "PathLike",
-    "Point",
-    "Renewal",
-    "Row",
-    "Rules",
-    "Skip",
-    "SkipReason",
-    "UM_PER_M",
-    "calendar",
-    "epochs",
-    "gps_time",
-    "open_log",
-    "rules_of",
-]
-
 PathLike = str | os.PathLike[str]
 Point = tuple[float, float, float]
 
@@ -63,6 +41,8 @@ HEADS = "gpscover 1", "gpscover 2", "gpscover 3"
 LATEST_PS = 4 * 10**21  # times of a log lie before it
 LONGEST = 24  # characters of a number of a log, few enough to be a floating-point number too
 SATELLITE = re.compile("[GE][0-9]{2}")
+AXES = {"0": 0, "1": 1, "2": 2}
+END_OF_FACE = {"0": 0, "1": 3, "2": 1, "3": 4, "4": 2, "5": 5}  # which end of a box a face is
 CLOSING = {"out": 1, "edge": 3, "in": 4}  # lines that close a box, and how many numbers each has
 
 
@@ -76,6 +56,8 @@ class SkipReason(str, Enum):
     NOT_NEAR_IN_TIME = "5"
     EPHEMERIS_OUT_OF_BOUNDS = "6"
     NEAR_EARTH_CENTRE = "7"
+    NOT_SEEN_BY_STATION = "8"
+    FAR_FROM_STATION = "9"
 
     @property
     def words(self) -> str:
@@ -91,6 +73,8 @@ SKIP_WORDS = {
     SkipReason.NOT_NEAR_IN_TIME: "none of its ephemerides is near enough in time",
     SkipReason.EPHEMERIS_OUT_OF_BOUNDS: "its ephemeris is out of bounds",
     SkipReason.NEAR_EARTH_CENTRE: "the search box comes too near to the earth's centre",
+    SkipReason.NOT_SEEN_BY_STATION: "the station doesn't have it then",
+    SkipReason.FAR_FROM_STATION: "its codes at receiver and station are far apart",
 }
 
 
@@ -151,11 +135,7 @@ class Box(NamedTuple):
     def contains(self, point: Point) -> bool:
         """Whether a point x, y, z in metres, taken to the nearest um, lies in it."""
         x, y, z = (round(part * UM_PER_M) for part in point)
-        return (
-            self.x_low <= x <= self.x_high
-            and self.y_low <= y <= self.y_high
-            and self.z_low <= z <= self.z_high
-        )
+        return self.x_low <= x <= self.x_high and self.y_low <= y <= self.y_high and self.z_low <= z <= self.z_high
 
     def to_metres(self) -> tuple[Point, Point]:
         """The low and the high corner in metres."""
@@ -294,10 +274,9 @@ def wholes(words: list[str], count: int) -> tuple[int, ...]:
 
 def box_of(ends: tuple[int, ...] | list[int]) -> Box:
     """A box of its low and its high corner. None has a low end above the high one."""
-    x_low, y_low, z_low, x_high, y_high, z_high = ends
-    if x_low > x_high or y_low > y_high or z_low > z_high:
+    if ends[0] > ends[3] or ends[1] > ends[4] or ends[2] > ends[5]:
         raise ValueError
-    return Box(x_low, y_low, z_low, x_high, y_high, z_high)
+    return Box._make(ends)
 
 
 def satellite_of(word: str) -> str:
@@ -310,7 +289,7 @@ def satellite_of(word: str) -> str:
 def row_of(words: list[str]) -> Row:
     """The row of a `sat` line. On one without a last pair the error is the same at every point."""
     ends = wholes(words[2:], len(words) - 2)
-    pairs = [Interval(*pair) for pair in zip(ends[::2], ends[1::2], strict=True)]
+    pairs = list(map(Interval._make, zip(ends[::2], ends[1::2], strict=True)))
     if words[0] != "sat" or len(pairs) not in (5, 6):
         raise ValueError
     place = (pairs[0], pairs[1], pairs[2])
@@ -351,39 +330,30 @@ class Fold:
         if words[0] == "out":
             self.epoch.outs += 1
         else:
-            clock = Interval(*numbers[-2:])
+            clock = Interval(numbers[-2], numbers[-1])
             self.epoch.kept.append(Kept(box_of(box), words[0] == "in", clock, self.rows))
 
     def halve(self, identity: int, axis: int) -> None:
         """Puts the two halves of a box into the live boxes, under the next two numbers."""
-        if not 0 <= axis < 3:
-            raise ValueError
-        low = self.live.pop(identity)
-        high = list(low)
+        low, following = self.live.pop(identity), self.following
+        high = low.copy()
         middle = (low[axis] + low[axis + 3]) // 2
         low[axis + 3], high[axis] = middle, middle + 1
-        self.live[self.following], self.live[self.following + 1] = low, high
-        self.following += 2
-
-    def cut(self, identity: int, face: int, bound: int) -> None:
-        """Gives a box a new end at one of its faces."""
-        if not 0 <= face < 6:
-            raise ValueError
-        axis, is_high = divmod(face, 2)
-        self.live[identity][axis + 3 * is_high] = bound
+        self.live[following], self.live[following + 1] = low, high
+        self.following = following + 2
 
     def step(self, words: list[str]) -> None:
-        """Takes a step."""
-        if words[0] == "split":
-            identity, axis = wholes(words[1:], 2)
-            self.halve(identity, axis)
-        elif words[0] in CLOSING:
-            self.close(words)
-        elif words[0] == "cut":
-            identity, face, bound = wholes(words[1:], 3)
-            self.cut(identity, face, bound)
+        """Takes a step. Most of a log are cuts, which give a box a new end at one of its faces."""
+        if words[0] == "cut":
+            _, identity, face, bound = words
+            if len(bound) > LONGEST:
+                raise ValueError
+            self.live[int(identity)][END_OF_FACE[face]] = int(bound)
+        elif words[0] == "split":
+            _, identity, axis = words
+            self.halve(int(identity), AXES[axis])
         else:
-            raise ValueError
+            self.close(words)
         self.steps += 1
 
     def renew(self, words: list[str], lines: Iterator[str]) -> None:
@@ -408,9 +378,7 @@ def fold_steps(epoch: Epoch, root: Box, lines: Iterator[str], renews: bool) -> N
     raise EOFError
 
 
-def read_block(
-    words: list[str], outliers: int, lines: Iterator[str], renews: bool
-) -> tuple[Epoch, str | None]:
+def read_block(words: list[str], outliers: int, lines: Iterator[str], renews: bool) -> tuple[Epoch, str | None]:
     """The epoch that a first line begins, and the line behind it, which is None at the end."""
     index, ps, satellites = wholes(words[1:], 3)
     if not 0 <= ps < LATEST_PS:
@@ -451,9 +419,7 @@ class Searches:
         if root is None:
             return
         first = self.first = self.first or root
-        within = all(a <= b for a, b in zip(first.low, root.low)) and all(
-            a >= b for a, b in zip(first.high, root.high)
-        )
+        within = all(a <= b for a, b in zip(first.low, root.low)) and all(a >= b for a, b in zip(first.high, root.high))
         epoch.search = first if within else root
         self.moved = self.moved or epoch.search != root
         epoch.moves = self.moved
@@ -484,14 +450,10 @@ class Numbered:
         self.file, self.count = file, 0
 
     def __iter__(self) -> Iterator[str]:
-        return self
-
-    def __next__(self) -> str:
-        line = next(self.file)
-        self.count += 1
-        if line[-1] != "\n":
-            raise EOFError
-        return line[:-1]
+        for self.count, line in enumerate(self.file, 1):
+            if line[-1] != "\n":
+                raise EOFError
+            yield line[:-1]
 
 
 def open_text(path: PathLike) -> TextIO:
@@ -507,7 +469,7 @@ def epochs(path: PathLike) -> Iterator[Epoch]:
     with open_text(path) as file:
         lines = Numbered(file)
         try:
-            yield from blocks(lines)
+            yield from blocks(iter(lines))
         except EOFError:
             where = f"{path} ends within an epoch, at line {lines.count}"
             raise LogError(f"{where}: its run was ended early") from None

@@ -1,6 +1,4 @@
-"""The outline of boxes as seen along an axis: the convex hull of their corners in a plane of two
-local axes.
-"""
+"""The outline of boxes as seen along an axis: the convex hull of their corners in a plane of two local axes."""
 
 from __future__ import annotations
 
@@ -12,6 +10,8 @@ from gpscover.log import UM_PER_M, Box
 Flat = tuple[float, float]  # a point of a plane in m
 Corner = tuple[int, int, int]  # a point in um
 
+ROUNDING_M2 = 1e-3  # more than the rounding of a product of two lengths of a region
+
 
 def half_hull(points: list[Flat]) -> list[Flat]:
     """The right-hand side of the convex hull of sorted points, without its last point."""
@@ -19,7 +19,7 @@ def half_hull(points: list[Flat]) -> list[Flat]:
     for x, y in points:
         # the last corner goes where the way over it to this point doesn't turn left
         while len(hull) > 1:
-            (a, b), (c, d) = hull[-2:]
+            (a, b), (c, d) = hull[-2], hull[-1]
             if (c - a) * (y - b) > (d - b) * (x - a):
                 break
             hull.pop()
@@ -32,7 +32,12 @@ def convex_hull(points: Iterable[Flat]) -> list[Flat]:
     ordered = sorted(set(points))
     if len(ordered) < 3:
         return ordered
-    return half_hull(ordered) + half_hull(ordered[::-1])
+    (a, b), (c, d) = ordered[0], ordered[-1]
+    # how far each point is on the left of the way from the first to the last one; each half has one side of it
+    lefts = [(c - a) * (y - b) - (d - b) * (x - a) for x, y in ordered]
+    below = [point for point, left in zip(ordered, lefts) if left < ROUNDING_M2]
+    above = [point for point, left in zip(ordered, lefts) if left > -ROUNDING_M2]
+    return half_hull(below) + half_hull(above[::-1])
 
 
 def ends_along(points: Iterable[Corner], axis: int) -> set[Corner]:
@@ -41,17 +46,13 @@ def ends_along(points: Iterable[Corner], axis: int) -> set[Corner]:
     for point in points:
         line = point[:axis] + point[axis + 1 :]
         low, high = lines.get(line, (point, point))
-        lines[line] = (
-            point if point[axis] < low[axis] else low,
-            point if point[axis] > high[axis] else high,
-        )
+        lines[line] = (point if point[axis] < low[axis] else low, point if point[axis] > high[axis] else high)
     return {point for both in lines.values() for point in both}
 
 
 def outer_corners(boxes: Iterable[Box]) -> set[Corner]:
-    """Corners of the boxes, among which are those of their convex hull: of those on a line along an
-    axis only two are.
-    """
+    """Corners of the boxes, among which are those of their convex hull: of those on a line along an axis only two
+    are."""
     lines: dict[tuple[int, int], tuple[int, int]] = {}
     for a, b, c, d, e, f in boxes:
         for line in ((b, c), (b, f), (e, c), (e, f)):
@@ -61,16 +62,18 @@ def outer_corners(boxes: Iterable[Box]) -> set[Corner]:
     return ends_along(ends_along(points, 1), 2)
 
 
-def outline_of(
-    points: Iterable[Corner], origin: Vector, right: Vector, upward: Vector
-) -> list[Flat]:
-    """The convex hull of points in um, in the plane of two unit vectors, in m from an origin."""
+def offsets_of(points: Iterable[Corner], origin: Vector) -> list[Corner]:
+    """Points in um as seen from an origin in m."""
     p, q, r = (round(value * UM_PER_M) for value in origin)
+    return [(x - p, y - q, z - r) for x, y, z in points]
+
+
+def outline_of(offsets: Iterable[Corner], right: Vector, upward: Vector) -> list[Flat]:
+    """The convex hull of points in um, in the plane of two unit vectors, in m."""
     (a, b, c), (d, e, f) = ([part / UM_PER_M for part in vector] for vector in (right, upward))
-    offsets = ((x - p, y - q, z - r) for x, y, z in points)
     return convex_hull([(a * x + b * y + c * z, d * x + e * y + f * z) for x, y, z in offsets])
 
 
 def outline(boxes: Iterable[Box], origin: Vector, right: Vector, upward: Vector) -> list[Flat]:
     """The convex hull of all corners in the plane of two unit vectors, in m from an origin in m."""
-    return outline_of(outer_corners(boxes), origin, right, upward)
+    return outline_of(offsets_of(outer_corners(boxes), origin), right, upward)

@@ -37,13 +37,12 @@ from collections.abc import Iterable, Iterator, Sequence
 from pathlib import Path
 from typing import Any
 
-from gpscover.command import Command, whole_file
+from gpscover.command import Command, absent, name_ending, whole_file
 from gpscover.errors import Error, LogError
 from gpscover.geodesy import Vector, azimuth, elevation
 from gpscover.kml import ground_ring
 from gpscover.log import UM_PER_M, Box, Epoch, PathLike, Rules, epochs, rules_of
-from gpscover.outline import Flat, outer_corners, outline_of
-from gpscover.page_figures import figures, tools
+from gpscover.outline import Flat, offsets_of, outer_corners, outline_of
 from gpscover.region import Region, hull_of, region_or_none
 from gpscover.summary import COLUMNS, Totals, csv_line, mark_of, text_cells
 
@@ -73,13 +72,10 @@ MARK_WORDS = {
     "": "",
     "few": "Too few usable satellites, so the epoch isn't paved.",
     "empty": (
-        "No position fits: more satellites than allowed broke their bounds, or the receiver was"
-        " outside the search box."
+        "No position fits: more satellites than allowed broke their bounds, or the receiver was outside the search box."
     ),
     "lost": "The track ends here: no position fits.",
-    "reaches": (
-        "A kept box lies on the named faces of the search box, so the region may go on outside."
-    ),
+    "reaches": "A kept box lies on the named faces of the search box, so the region may go on outside.",
 }
 
 
@@ -109,8 +105,7 @@ class Thinned:
 
 
 def to_json(value: object) -> str:
-    """A value as JSON without blanks, which has no `<`, by which a script of the page could end or
-    go on as another."""
+    """A value as JSON without blanks, which has no `<`, by which a script of the page could end or go on as another."""
     return json.dumps(value, ensure_ascii=True, separators=(",", ":")).replace("<", "\\u003c")
 
 
@@ -121,9 +116,7 @@ def hulls_of_groups(boxes: list[Box]) -> list[Box]:
     while True:
         groups: dict[tuple[int, ...], list[Box]] = {}
         for box in boxes:
-            cell = tuple(
-                (box[k] + box[k + 3] - 2 * hull[k]) * grid // (2 * sides[k] + 1) for k in range(3)
-            )
+            cell = tuple((box[k] + box[k + 3] - 2 * hull[k]) * grid // (2 * sides[k] + 1) for k in range(3))
             groups.setdefault(cell, []).append(box)
         if len(groups) <= MOST_BOXES:
             return [hull_of(group) for group in groups.values()]
@@ -143,22 +136,21 @@ def drawn_boxes(epoch: Epoch) -> tuple[list[Box], list[Box], list[Box]]:
 
 
 def packed_boxes(epoch: Epoch, region: Region) -> str:
-    """The drawn boxes for the page: their ends in steps from the hull's low corner, two bytes each,
-    as base64."""
+    """The drawn boxes for the page: their ends in steps from the hull's low corner, two bytes each, as base64."""
     kinds = drawn_boxes(epoch)
     hull = hull_of(epoch.boxes)
     steps = [max(1, -((hull[k] - hull[k + 3]) // STEPS)) for k in range(3)]
-    ends: list[int] = []
-    for box in (box for kind in kinds for box in kind):
-        ends += [(box[k] - hull[k]) // steps[k] for k in range(3)]
-        ends += [-((hull[k] - box[k + 3]) // steps[k]) for k in range(3)]
+    columns = list(zip(*(box for kind in kinds for box in kind)))
+    ends = [[(end - hull[k]) // steps[k] for end in columns[k]] for k in range(3)]
+    ends += [[-((hull[k] - end) // steps[k]) for end in columns[k + 3]] for k in range(3)]
+    numbers = [number for box in zip(*ends) for number in box]
     return to_json(
         {
             "counts": [len(kind) for kind in kinds],
             "low": [hull[k] / UM_PER_M - region.origin[k] for k in range(3)],
             "steps": [step / UM_PER_M for step in steps],
             "axes": region.axes,
-            "ends": base64.b64encode(struct.pack(f"<{len(ends)}H", *ends)).decode("ascii"),
+            "ends": base64.b64encode(struct.pack(f"<{len(numbers)}H", *numbers)).decode("ascii"),
         }
     )
 
@@ -175,10 +167,7 @@ def satellites_of(epoch: Epoch, place: Vector) -> Iterator[list[Any]]:
         there = [(low + high) / 2 / UM_PER_M for low, high in row.place]
         angles: list[float | None] = [None, None]
         if there != list(place):
-            angles = [
-                round(math.degrees(angle), 2)
-                for angle in (elevation(place, there), azimuth(place, there))
-            ]
+            angles = [round(math.degrees(angle), 2) for angle in (elevation(place, there), azimuth(place, there))]
         yield [row.satellite, *angles, *(metres(end) for end in row.error + row.sure)]
 
 
@@ -189,11 +178,8 @@ def rounded(points: Iterable[Flat], digits: int) -> list[list[float]]:
 
 def outlines_of(epoch: Epoch, region: Region) -> list[list[Flat]]:
     """The outlines of all kept boxes in m: east and north, east and up, north and up."""
-    corners, (east, north, up) = outer_corners(epoch.boxes), region.axes
-    return [
-        outline_of(corners, region.origin, *pair)
-        for pair in ((east, north), (east, up), (north, up))
-    ]
+    corners, (east, north, up) = offsets_of(outer_corners(epoch.boxes), region.origin), region.axes
+    return [outline_of(corners, *pair) for pair in ((east, north), (east, up), (north, up))]
 
 
 def detail(epoch: Epoch, region: Region | None, mark: str) -> str:
@@ -203,10 +189,7 @@ def detail(epoch: Epoch, region: Region | None, mark: str) -> str:
         place = epoch.root.centre
     said: dict[str, Any] = {
         "satellites": list(satellites_of(epoch, place)) if place else [],
-        "skips": [
-            [it.satellite, it.reason.words + (it.field and f" (field {it.field})")]
-            for it in epoch.skips
-        ],
+        "skips": [[it.satellite, it.reason.words + (it.field and f" (field {it.field})")] for it in epoch.skips],
         "place": "the middle of the region" if region else "the middle of the search box",
     }
     values = dict(zip(COLUMNS, csv_line(epoch, region, mark)))
@@ -241,9 +224,7 @@ class Collected:
         cells = text_cells(epoch, region)
         position = len(self.rows)
         self.rows.append(
-            cells
-            + [""] * (len(CELLS) - 2 - len(cells))
-            + [mark, " ".join(region.faces) if region else ""]
+            cells + [""] * (len(CELLS) - 2 - len(cells)) + [mark, " ".join(region.faces) if region else ""]
         )
         self.size += len(to_json(self.rows[-1]))
         if self.details.wants(position):
@@ -253,8 +234,7 @@ class Collected:
         self.thin()
 
     def thin(self) -> None:
-        """Thins out what is larger, until all fits; no boxes are kept of an epoch whose detail
-        isn't."""
+        """Thins out what is larger, until all fits; no boxes are kept of an epoch whose detail isn't."""
         while self.size + self.details.size + self.boxes.size > self.room and max(
             self.details.every, self.boxes.every
         ) <= len(self.rows):
@@ -271,10 +251,7 @@ class Collected:
                 " MB: --from and --to make a page of some epochs"
             )
         if self.details.every > 1:
-            yield (
-                "sky, outlines, errors and skipped satellites are those of one epoch in"
-                f" {self.details.every}"
-            )
+            yield f"sky, outlines, errors and skipped satellites are those of one epoch in {self.details.every}"
         numbers = [int(row[0]) for row in self.rows]
         gaps = [(a, b) for a, b in zip(numbers, numbers[1:]) if b != a + 1]
         if gaps:
@@ -284,9 +261,7 @@ class Collected:
             )
 
 
-def collect(
-    paths: Sequence[PathLike], first: float, last: float, room: int
-) -> tuple[Collected, str | None]:
+def collect(paths: Sequence[PathLike], first: float, last: float, room: int) -> tuple[Collected, str | None]:
     """What the logs have of the epochs from a number to another, and the line for a log that ends
     too early, or None."""
     collected = Collected(room)
@@ -304,26 +279,15 @@ def collect(
 
 def settings_differ(text: str, rules: Rules) -> Iterator[str]:
     """A line for each rule of the settings that isn't the log's."""
-    wanted = (
-        ("outliers", rules.outliers),
-        ("bisections", rules.splits),
-        ("width", rules.width // 1000),
-    )
+    wanted = (("outliers", rules.outliers), ("bisections", rules.splits), ("width", rules.width // 1000))
     for key, value in wanted:
         found = re.search(rf"(?m)^\s*{key}\s*=\s*([0-9](?:_?[0-9]){{0,18}})\b", text)
         if found and int(found[1]) != value:
-            yield (
-                f"these settings have {key} = {found[1]}, and the log has {value}: they aren't"
-                " those of the log"
-            )
+            yield f"these settings have {key} = {found[1]}, and the log has {value}: they aren't those of the log"
 
 
 def page_data(
-    args: argparse.Namespace,
-    collected: Collected,
-    rules: Rules,
-    settings: str | None,
-    broken: str | None,
+    args: argparse.Namespace, collected: Collected, rules: Rules, settings: str | None, broken: str | None
 ) -> dict[str, Any]:
     """What the page's script needs, but for details and boxes."""
     warnings = [f"{broken}; the page has the epochs before"] if broken else []
@@ -331,10 +295,7 @@ def page_data(
     return {
         "logs": args.log,
         "rules": {"q": rules.outliers, "splits": rules.splits, "width": metres(rules.width)},
-        "lines": [
-            collected.totals.line(),
-            *(f"warning: {each}" for each in collected.totals.warnings()),
-        ],
+        "lines": [collected.totals.line(), *(f"warning: {each}" for each in collected.totals.warnings())],
         "warnings": warnings,
         "notes": list(collected.notes()),
         "every": {"details": collected.details.every, "boxes": collected.boxes.every},
@@ -359,30 +320,30 @@ def page_text(title: str, data: dict[str, Any], collected: Collected, parts: dic
     details, boxes = by_position(collected.details), by_position(collected.boxes)
     body = f'{head},"details":{details},"boxes":{boxes}}}'
     return parts["page.html"].format(
-        title=html.escape(title),
-        css=parts["page.css"],
-        data=body,
-        plotly=parts["plotly"],
-        script=parts["page.js"],
+        title=html.escape(title), css=parts["page.css"], data=body, plotly=parts["plotly"], script=parts["page.js"]
     )
+
+
+def plotly_script() -> str:
+    """The script of plotly, or an Error that says how to get it."""
+    try:
+        from plotly.offline import get_plotlyjs
+    except ImportError:
+        raise absent("plotly", "-m gpscover page ") from None
+    script: str = get_plotlyjs()
+    return script
 
 
 def make_page(args: argparse.Namespace) -> str | None:
     """Reads the logs and writes the page. The line for a log that ends too early, or None."""
-    objects, script = tools()
-    parts = {
-        name: (PARTS / name).read_text(encoding="utf-8")
-        for name in ("page.html", "page.css", "page.js")
-    }
-    parts["plotly"] = script
+    parts = {name: (PARTS / name).read_text(encoding="utf-8") for name in ("page.html", "page.css", "page.js")}
+    parts["plotly"] = plotly_script()
     rules = rules_of(args.log[0])
-    settings = (
-        Path(args.settings).read_text(encoding="utf-8", errors="replace") if args.settings else None
-    )
+    settings = Path(args.settings).read_text(encoding="utf-8", errors="replace") if args.settings else None
     room = PAGE_LIMIT - sum(len(part.encode()) for part in parts.values())
     collected, broken = collect(args.log, args.first or 0, args.last or math.inf, room)
     data = page_data(args, collected, rules, settings, broken)
-    data["figures"] = figures(objects)
+    data["figures"] = json.loads((PARTS / "figures.json").read_text(encoding="utf-8"))
     title = args.title or f"Regions of {', '.join(Path(name).name for name in args.log)}"
     with whole_file(args.out) as file:
         file.write(page_text(title, data, collected, parts))
@@ -390,13 +351,6 @@ def make_page(args: argparse.Namespace) -> str | None:
     for line in said:
         print(f"{args.parser.prog}: {line}", file=sys.stderr)
     return broken
-
-
-def page_name(name: str) -> str:
-    """A file's name that ends with .html."""
-    if not name.endswith((".html", ".htm")):
-        raise argparse.ArgumentTypeError("OUT ends with .html")
-    return name
 
 
 def number(word: str) -> int:
@@ -408,17 +362,11 @@ def number(word: str) -> int:
 
 def arguments(parser: argparse.ArgumentParser) -> None:
     """The words of the command line."""
-    parser.add_argument(
-        "log", metavar="LOG", nargs="+", help="a log, or the logs of a file's parts in their order"
-    )
-    parser.add_argument("out", metavar="OUT.html", type=page_name)
+    parser.add_argument("log", metavar="LOG", nargs="+", help="a log, or the logs of a file's parts in their order")
+    parser.add_argument("out", metavar="OUT.html", type=name_ending(".html", ".htm", told=".html"))
     parser.add_argument("--settings", metavar="FILE", help="the settings of the run, to be shown")
-    parser.add_argument(
-        "--from", type=number, dest="first", metavar="N", help="the first epoch that is taken"
-    )
-    parser.add_argument(
-        "--to", type=number, dest="last", metavar="N", help="the last epoch that is taken"
-    )
+    parser.add_argument("--from", type=number, dest="first", metavar="N", help="the first epoch that is taken")
+    parser.add_argument("--to", type=number, dest="last", metavar="N", help="the last epoch that is taken")
     parser.add_argument("--title", metavar="TEXT")
 
 
@@ -430,6 +378,4 @@ def run(args: argparse.Namespace) -> int:
     return 0
 
 
-COMMAND = Command(
-    "page", "one HTML file of a log, to look at in a browser", arguments, run, __doc__
-)
+COMMAND = Command("page", "one HTML file of a log, to look at in a browser", arguments, run, __doc__)

@@ -46,40 +46,30 @@ from __future__ import annotations
 
 import argparse
 import math
-import sys
 from collections.abc import Iterable, Sequence
-from dataclasses import dataclass
 from typing import Any, TypeVar
 
-from gpscover.command import Command, measure
+from gpscover.command import Command, absent, measure, name_ending, work_of
 from gpscover.errors import Error
-from gpscover.geodesy import Axes, Vector, dot, geodetic, local_axes
-from gpscover.integrity import Judge, Limits, Numbers, alert_limit
+from gpscover.geodesy import Frame, Vector
+from gpscover.integrity import Judge, Limits, Numbers, limit_argument
 from gpscover.log import PS_PER_MS, UM_PER_M, Box, Epoch, PathLike, calendar, epochs
 from gpscover.outline import Flat, convex_hull, outline
-from gpscover.places import Meetings, read_places
-from gpscover.region import (
-    Extent,
-    Region,
-    region_of,
-    reaches,
-    region_or_none,
-    touched_faces,
-    upward,
-)
+from gpscover.places import Meetings
+from gpscover.region import Extent, Region, region_of, reaches, region_or_none, touched_faces, upward
 from gpscover.shapes import corners
 from gpscover.zones import Corners, Reach, Zone, read_zones
 
 T = TypeVar("T")
+Gathered = TypeVar("Gathered", "Course", "Tube", "Fenced")
 Judged = tuple[Numbers, bool]  # of an epoch, and whether the search box cuts its region
 
 EDGE_COLOUR, INNER_COLOUR, PLACE_COLOUR, BAND_COLOUR = "#f4b183", "#548235", "#c00000", "#9dc3e6"
-CUT_COLOUR, EMPTY_COLOUR, LIMIT_COLOUR, EDGE_LINE_COLOUR = (
-    "#b36bd4",
-    "#d9d9d9",
-    "#404040",
-    "#1f5f99",
-)
+CUT_COLOUR, EMPTY_COLOUR, LIMIT_COLOUR, EDGE_LINE_COLOUR = "#b36bd4", "#d9d9d9", "#404040", "#1f5f99"
+# By the salt the same picture is the same file.
+STYLE: dict[str, Any] = {"svg.hashsalt": "gpscover", "axes.grid": True, "grid.alpha": 0.3}
+STYLE |= {"legend.fontsize": 9, "legend.frameon": False}
+NAMES = ("east", "north", "up")
 MANY_BOXES = 500  # in an SVG more than these are drawn as dots, so that the file stays small
 DIRECTIONS = (("east", "north"), ("east", "up"))
 LONGEST_IN = 6.5  # the longest side of what is drawn, in inches
@@ -89,27 +79,59 @@ ANSWER_COLOURS = {"outside": BAND_COLOUR, "inside": INNER_COLOUR, "open": EDGE_C
 
 
 def tools() -> tuple[Any, Any]:
-    """matplotlib's parts, or a Error that says how to get them."""
+    """matplotlib's parts, or an Error that says how to get them."""
     try:
         import matplotlib
 
         matplotlib.use("Agg")
-        matplotlib.rcParams["svg.hashsalt"] = "gpscover"  # the same picture is the same file
+        matplotlib.rcParams.update(STYLE)
         from matplotlib import collections, pyplot
     except ImportError:
-        raise Error(
-            f"{sys.executable} has no matplotlib; Debian: apt-get install python3-matplotlib, "
-            "then /usr/bin/python3 -m gpscover draw .."
-        ) from None
+        raise absent("matplotlib", "-m gpscover draw ") from None
     return pyplot, collections
 
 
-def box_polygons(boxes: list[Box], origin: Vector, first: Vector, second: Vector) -> Any:
-    """Each box seen along the axis that is across two local axes: a hexagon, as (number of boxes,
-    6, 2) metres.
+def with_note(title: str, note: str | None, before: str = "\n") -> str:
+    """A title and the user's further line."""
+    return title + (f"{before}{note}" if note else "")
 
-    The hexagon's sides are the box's three, in the order of their direction, and then these turned
-    round. That order is the same for all boxes.
+
+def finish(figure: Any, legend: list[Any], out: str, place: str = "lower center", rect: Any = (0, 0.04, 1, 1)) -> None:
+    """Gives a picture its legend below the panels, lays these out within a part of it, and writes it."""
+    figure.legend(handles=legend, loc=place, ncol=len(legend))
+    figure.tight_layout(rect=rect)
+    save(figure, out)
+
+
+def save(figure: Any, out: str) -> None:
+    """Writes the picture without the date, so that the same picture is the same file."""
+    figure.savefig(out, dpi=110, metadata={"Date": None} if out.endswith(".svg") else {"Software": None})
+
+
+def legend_of(axes: Any) -> list[Any]:
+    """What the legend has of a panel."""
+    handles: list[Any] = axes.get_legend_handles_labels()[0]
+    return handles
+
+
+def gathered(into: Gathered, path: PathLike) -> Gathered:
+    """What is drawn of a log, with all of its epochs added."""
+    for epoch in epochs(path):
+        into.add(epoch)
+    into.meetings.refuse_strangers()
+    return into
+
+
+def since(seconds: float) -> str:
+    """The label of an axis of time that begins at a GPS time in seconds."""
+    return f"s since {calendar(round(seconds * 1000) * PS_PER_MS)} GPS time"
+
+
+def box_polygons(boxes: list[Box], origin: Vector, first: Vector, second: Vector) -> Any:
+    """Each box seen along the axis that is across two local axes: a hexagon, as (number of boxes, 6, 2) metres.
+
+    The hexagon's sides are the box's three, in the order of their direction, and then these turned round. That order is
+    the same for all boxes.
     """
     import numpy
 
@@ -117,10 +139,7 @@ def box_polygons(boxes: list[Box], origin: Vector, first: Vector, second: Vector
     base = numpy.array([round(value * UM_PER_M) for value in origin] * 2, dtype=numpy.int64)
     ends = (ends - base) / UM_PER_M
     plane = numpy.array([first, second]).T  # 3 x 2: the directions of x, y and z in the plane
-    plane = (
-        plane
-        * numpy.where((plane[:, 1] < 0) | ((plane[:, 1] == 0) & (plane[:, 0] < 0)), -1, 1)[:, None]
-    )
+    plane = plane * numpy.where((plane[:, 1] < 0) | ((plane[:, 1] == 0) & (plane[:, 0] < 0)), -1, 1)[:, None]
     order = numpy.argsort(numpy.arctan2(plane[:, 1], plane[:, 0]))
     sides = (ends[:, 3:] - ends[:, :3])[:, order, None] * plane[order][None]  # boxes x 3 x 2
     centres = (ends[:, :3] + ends[:, 3:]) / 2 @ numpy.array([first, second]).T
@@ -130,13 +149,11 @@ def box_polygons(boxes: list[Box], origin: Vector, first: Vector, second: Vector
 
 
 def box_kinds(epoch: Epoch) -> tuple[tuple[list[Box], str, str], ...]:
-    """The kept boxes by their colours: those on a face of the search box, the others at the edge,
-    and inner ones."""
+    """The kept boxes by their colours: those on a face of the search box, the others at the edge, and inner ones."""
     search = epoch.search
     cut = {box for box in epoch.boxes if search is not None and touched_faces(box, search)}
     edge, inner = (
-        [kept.box for kept in epoch.kept if kept.inner == it and kept.box not in cut]
-        for it in (False, True)
+        [kept.box for kept in epoch.kept if kept.inner == it and kept.box not in cut] for it in (False, True)
     )
     return (
         (sorted(cut), CUT_COLOUR, "boxes on a face of the search box"),
@@ -145,34 +162,21 @@ def box_kinds(epoch: Epoch) -> tuple[tuple[list[Box], str, str], ...]:
     )
 
 
-def draw_boxes(
-    axes: Any,
-    collections: Any,
-    epoch: Epoch,
-    region: Region,
-    pair: tuple[str, str],
-    is_vector: bool,
-) -> None:
-    """Draws the kept boxes of an epoch in the plane of two directions."""
-    vectors = dict(zip(("east", "north", "up"), region.axes))
+def draw_boxes(axes: Any, epoch: Epoch, region: Region, pair: tuple[str, str], dots: bool) -> None:
+    """Draws the kept boxes of an epoch in the plane of two directions, as dots where that is wanted."""
+    _, collections = tools()
+    vectors = [region.axes[NAMES.index(name)] for name in pair]
+    style = {"edgecolors": "#00000060", "linewidths": 0.15, "rasterized": dots}
     for boxes, colour, name in box_kinds(epoch):
         if boxes:
-            polygons = box_polygons(boxes, region.origin, vectors[pair[0]], vectors[pair[1]])
-            axes.add_collection(
-                collections.PolyCollection(
-                    polygons,
-                    facecolors=colour,
-                    edgecolors="#00000060",
-                    linewidths=0.15,
-                    label=f"{len(boxes):,} {name}",
-                    rasterized=is_vector and len(epoch.kept) > MANY_BOXES,
-                )
-            )
+            polygons = box_polygons(boxes, region.origin, *vectors)
+            label = f"{len(boxes):,} {name}"
+            axes.add_collection(collections.PolyCollection(polygons, facecolors=colour, label=label, **style))
 
 
 def limits_of(region: Region, name: str, with_place: bool) -> Extent:
     """What a direction shows: the extents with a margin, and the origin where it is a place."""
-    low, high = region.extents["east north up".split().index(name)]
+    low, high = region.extents[NAMES.index(name)]
     if with_place:
         low, high = min(low, 0.0), max(high, 0.0)
     margin = 0.05 * (high - low)
@@ -185,21 +189,15 @@ def region_title(epoch: Epoch, region: Region) -> str:
     A third where the box cuts it.
     """
     east, north, up = (upward(width) for width in region.widths())
-    cut = (
-        f"\nreaches the search box at {' '.join(region.faces)}: it may go on outside"
-        if region.faces
-        else ""
-    )
+    cut = f"\nreaches the search box at {' '.join(region.faces)}: it may go on outside" if region.faces else ""
     return (
-        f"epoch {epoch.index}, {calendar(epoch.ps)} GPS time, {epoch.satellites} satellites, q ="
-        f" {epoch.outliers}, {epoch.splits:,} splits\neast {east:.1f} m, north {north:.1f} m, up"
-        f" {up:.1f} m{cut}"
+        f"epoch {epoch.index}, {calendar(epoch.ps)} GPS time, {epoch.satellites} satellites, q = {epoch.outliers},"
+        f" {epoch.splits:,} splits\neast {east:.1f} m, north {north:.1f} m, up {up:.1f} m{cut}"
     )
 
 
 def panels_at_one_scale(pyplot: Any, shown: dict[str, Extent]) -> tuple[Any, list[Any]]:
-    """A figure with two panels, east-north and east-up, in which a metre is as long along all four
-    axes."""
+    """A figure with two panels, east-north and east-up, in which a metre is as long along all four axes."""
     spans = {name: high - low for name, (low, high) in shown.items()}
     scale = LONGEST_IN / max(2 * spans["east"], spans["north"], spans["up"])  # inches a metre
     wide, heights = spans["east"] * scale, [spans[pair[1]] * scale for pair in DIRECTIONS]
@@ -207,46 +205,25 @@ def panels_at_one_scale(pyplot: Any, shown: dict[str, Extent]) -> tuple[Any, lis
     size = (max(left + 2 * wide + gap + 0.2, 6.0), bottom + max(heights) + above)
     figure = pyplot.figure(figsize=size)
     lefts = (left, left + wide + gap)
-    places = [
-        (x / size[0], bottom / size[1], wide / size[0], y / size[1]) for x, y in zip(lefts, heights)
-    ]
+    places = [(x / size[0], bottom / size[1], wide / size[0], y / size[1]) for x, y in zip(lefts, heights)]
     return figure, [figure.add_axes(place) for place in places]
 
 
 def draw_region(epoch: Epoch, place: Vector | None, out: str, note: str | None) -> None:
     """Draws the region of one epoch from above and from the side."""
-    pyplot, collections = tools()
     region = region_of(epoch, place)
-    shown = {name: limits_of(region, name, place is not None) for name in ("east", "north", "up")}
-    figure, both = panels_at_one_scale(pyplot, shown)
+    shown = {name: limits_of(region, name, place is not None) for name in NAMES}
+    figure, both = panels_at_one_scale(tools()[0], shown)
     origin = "the cross" if place is not None else "the middle"
     for axes, pair in zip(both, DIRECTIONS):
-        draw_boxes(axes, collections, epoch, region, pair, out.endswith(".svg"))
+        draw_boxes(axes, epoch, region, pair, out.endswith(".svg") and len(epoch.kept) > MANY_BOXES)
         if place is not None:
-            axes.plot(
-                [0],
-                [0],
-                "+",
-                color=PLACE_COLOUR,
-                markersize=12,
-                markeredgewidth=1.8,
-                label="known place",
-            )
-        axes.set_xlim(shown["east"])
-        axes.set_ylim(shown[pair[1]])
-        axes.grid(alpha=0.3)
-        axes.set_xlabel(f"east of {origin}, m")
-        axes.set_ylabel(f"{pair[1]} of {origin}, m")
-    figure.suptitle(region_title(epoch, region) + (f"\n{note}" if note else ""), fontsize=10)
-    handles, labels = both[0].get_legend_handles_labels()
-    figure.legend(handles, labels, loc="lower center", ncol=3, fontsize=9, frameon=False)
+            axes.plot([0], [0], "+", color=PLACE_COLOUR, markersize=12, markeredgewidth=1.8, label="known place")
+        axes.set(xlim=shown["east"], ylim=shown[pair[1]])
+        axes.set(xlabel=f"east of {origin}, m", ylabel=f"{pair[1]} of {origin}, m")
+    figure.suptitle(with_note(region_title(epoch, region), note), fontsize=10)
+    figure.legend(handles=legend_of(both[0]), loc="lower center", ncol=3)
     save(figure, out)
-
-
-def save(figure: Any, out: str) -> None:
-    """Writes the picture without the date, so that the same picture is the same file."""
-    kind = out.rsplit(".", 1)[-1]
-    figure.savefig(out, dpi=110, metadata={"Date": None} if kind == "svg" else {"Software": None})
 
 
 def chosen_epoch(path: PathLike, index: int) -> Epoch:
@@ -254,10 +231,7 @@ def chosen_epoch(path: PathLike, index: int) -> Epoch:
     for epoch in epochs(path):
         if epoch.index == index:
             if epoch.few or not epoch.kept:
-                raise Error(
-                    f"epoch {index} of {path} has no region: it is"
-                    f" {'few' if epoch.few else 'empty'}"
-                )
+                raise Error(f"epoch {index} of {path} has no region: it is {'few' if epoch.few else 'empty'}")
             return epoch
     raise Error(f"{path} has no epoch {index}")
 
@@ -267,43 +241,15 @@ def run_region(args: argparse.Namespace) -> None:
     epoch = chosen_epoch(args.log, args.epoch)
     place = args.place
     if args.places:
-        meetings = Meetings(args.places, read_places(args.places))
+        meetings = Meetings.of(args.places)
         place = meetings.at(epoch.ps)
         meetings.refuse_strangers(f"epoch {epoch.index}")
     draw_region(epoch, place, args.out, args.note)
 
 
-@dataclass(frozen=True)
-class Frame:
-    """East, north and up in m from an origin."""
-
-    origin: Vector
-    axes: Axes
-
-    @classmethod
-    def at(cls, origin: Vector) -> Frame:
-        """The frame at a point."""
-        return cls(origin, local_axes(*geodetic(origin)[:2]))
-
-    def offset(self, point: Vector) -> Vector:
-        """A point along the axes."""
-        return offset(self.origin, self.axes, point)
-
-    def above(self, point: Vector) -> Flat:
-        """A point as seen from above: east and north."""
-        east, north, _ = self.offset(point)
-        return east, north
-
-    def outline(self, boxes: list[Box]) -> list[Flat]:
-        """The outline of boxes as seen from above."""
-        return outline(boxes, self.origin, self.axes[0], self.axes[1])
-
-
-def offset(origin: Vector, axes: Axes, point: Vector) -> Vector:
-    """A point along east, north and up from an origin."""
-    apart = [p - o for p, o in zip(point, origin)]
-    east, north, up = (dot(axis, apart) for axis in axes)
-    return east, north, up
+def ring_above(frame: Frame, boxes: list[Box]) -> list[Flat]:
+    """The outline of boxes as seen from above."""
+    return outline(boxes, frame.origin, *frame.axes[:2])
 
 
 NOWHERE = (math.nan, math.nan)
@@ -330,8 +276,7 @@ class Course:
         return self.origin
 
     def add(self, epoch: Epoch) -> None:
-        """Adds an epoch: a gap where it has no region, or where it moves and its place isn't
-        known."""
+        """Adds an epoch: a gap where it has no region, or where it moves and its place isn't known."""
         place = self.meetings.at(epoch.ps)
         origin = self.origin_for(epoch, place) if epoch.kept else None
         region = region_of(epoch, origin) if origin is not None else None
@@ -341,15 +286,12 @@ class Course:
         self.empty.append(epoch.empty)
         known = (math.nan, math.nan, math.nan)
         if place is not None and origin is not None:
-            known = offset(origin, local_axes(*geodetic(origin)[:2]), place)
+            known = Frame.at(origin).offset(place)
         self.known.append(known)
 
     def title(self) -> str:
         """How many epochs there are, and how many have a colour of their own."""
-        return (
-            f"{len(self.times)} epochs; {sum(self.cut)} reach the search box, {sum(self.empty)} are"
-            " empty"
-        )
+        return f"{len(self.times)} epochs; {sum(self.cut)} reach the search box, {sum(self.empty)} are empty"
 
 
 def edges_of(times: list[float]) -> list[Extent]:
@@ -361,80 +303,51 @@ def edges_of(times: list[float]) -> list[Extent]:
     return list(zip(starts, [*middles, 2 * times[-1] - middles[-1]]))
 
 
-def bands(
-    edges: list[Extent], spans: list[Extent], wanted: Iterable[bool]
-) -> list[tuple[float, ...]]:
-    """The corners of the wanted epochs' bands, with gaps between them where one isn't wanted: x,
-    low, high."""
+def bands(edges: list[Extent], spans: list[Extent], wanted: Iterable[bool]) -> list[tuple[float, ...]]:
+    """The corners of the wanted epochs' bands, with gaps between them where one isn't wanted: x, low, high."""
     points: list[tuple[float, float, float]] = []
     for (start, end), (low, high), is_wanted in zip(edges, spans, wanted):
-        points += (
-            [(start, low, high), (end, low, high)] if is_wanted else [(start, math.nan, math.nan)]
-        )
+        points += [(start, low, high), (end, low, high)] if is_wanted else [(start, math.nan, math.nan)]
     return list(zip(*points))
 
 
 def draw_bands(axes: Any, course: Course, edges: list[Extent], spans: list[Extent]) -> None:
     """Draws the extents along one axis, and where there are none."""
     whole = [not cut for cut in course.cut]
-    axes.fill_between(
-        *bands(edges, spans, whole), color=BAND_COLOUR, linewidth=0, label="the region's extents"
-    )
+    axes.fill_between(*bands(edges, spans, whole), color=BAND_COLOUR, linewidth=0, label="the region's extents")
     if any(course.cut):
-        axes.fill_between(
-            *bands(edges, spans, course.cut),
-            color=CUT_COLOUR,
-            linewidth=0,
-            label="cut by the search box",
-        )
+        cut = bands(edges, spans, course.cut)
+        axes.fill_between(*cut, color=CUT_COLOUR, linewidth=0, label="cut by the search box")
     if any(course.empty):
         everywhere = bands(edges, [(0, 1)] * len(edges), course.empty)
-        axes.fill_between(
-            *everywhere,
-            color=EMPTY_COLOUR,
-            linewidth=0,
-            transform=axes.get_xaxis_transform(),
-            label="no position fits",
-        )
+        style = {"color": EMPTY_COLOUR, "linewidth": 0, "transform": axes.get_xaxis_transform()}
+        axes.fill_between(*everywhere, label="no position fits", **style)
 
 
 def draw_course(course: Course, out: str, note: str | None) -> None:
     """Draws the extents over time: three panels, one below the other."""
-    pyplot, _ = tools()
     times = [time - course.times[0] for time in course.times]
     edges = edges_of(times)
-    figure, panels = pyplot.subplots(3, 1, figsize=(9, 8), sharex=True)
-    for k, (axes, name) in enumerate(zip(panels, ("east", "north", "up"))):
+    figure, panels = tools()[0].subplots(3, 1, figsize=(9, 8), sharex=True)
+    for k, (axes, name) in enumerate(zip(panels, NAMES)):
         draw_bands(axes, course, edges, [extents[k] for extents in course.extents])
         if course.meetings.places:
-            axes.plot(
-                times,
-                [known[k] for known in course.known],
-                color=PLACE_COLOUR,
-                linewidth=1,
-                label="known places",
-            )
+            known = [known[k] for known in course.known]
+            axes.plot(times, known, color=PLACE_COLOUR, linewidth=1, label="known places")
         axes.set_ylabel(f"{name}, m")
-        axes.grid(alpha=0.3)
-    panels[-1].set_xlabel(f"s since {calendar(round(course.times[0] * 1000) * PS_PER_MS)} GPS time")
-    figure.suptitle(course.title() + (f"\n{note}" if note else ""), fontsize=11)
-    handles, labels = panels[0].get_legend_handles_labels()
-    figure.legend(handles, labels, loc="lower center", ncol=len(handles), fontsize=9, frameon=False)
-    figure.tight_layout(rect=(0, 0.04, 1, 1))
-    save(figure, out)
+    panels[-1].set_xlabel(since(course.times[0]))
+    figure.suptitle(with_note(course.title(), note), fontsize=11)
+    finish(figure, legend_of(panels[0]), out)
 
 
 def run_time(args: argparse.Namespace) -> None:
     """Draws the extents over time."""
-    places = read_places(args.places) if args.places else []
-    if args.moving and not places:
+    meetings = Meetings.of(args.places or None)
+    if args.moving and not meetings.places:
         raise Error("--moving needs --places")
-    course = Course(Meetings(args.places, places), args.moving)
-    for epoch in epochs(args.log):
-        course.add(epoch)
-    course.meetings.refuse_strangers()
+    course = gathered(Course(meetings, args.moving), args.log)
     if all(math.isnan(extents[0][0]) for extents in course.extents):
-        raise Error(f"{args.log} has no region to draw" + (" at a known place" if places else ""))
+        raise Error(f"{args.log} has no region to draw" + (" at a known place" if meetings.places else ""))
     draw_course(course, args.out, args.note)
 
 
@@ -471,11 +384,11 @@ class Tube:
     def add_shapes(self, frame: Frame, epoch: Epoch, place: Vector | None) -> None:
         """Adds what is seen of an epoch from above."""
         if epoch.kept:
-            self.rings.append(frame.outline(epoch.boxes))
+            self.rings.append(ring_above(frame, epoch.boxes))
         if place is not None:
-            self.known.append(frame.above(place))
+            self.known.append(frame.offset(place)[:2])
         if epoch.moves and epoch.empty and self.lost is None and epoch.root is not None:
-            self.lost = epoch.index, frame.outline([epoch.root])
+            self.lost = epoch.index, ring_above(frame, [epoch.root])
 
     def drawn(self) -> list[list[Flat]]:
         """At most MOST_OUTLINES of the outlines."""
@@ -489,10 +402,7 @@ class Tube:
 
 def tube_of(path: PathLike, meetings: Meetings) -> Tube:
     """The regions of a log."""
-    tube = Tube(meetings)
-    for epoch in epochs(path):
-        tube.add(epoch)
-    meetings.refuse_strangers()
+    tube = gathered(Tube(meetings), path)
     if not tube.rings:
         raise Error(f"{path} has no region to draw")
     return tube
@@ -500,71 +410,44 @@ def tube_of(path: PathLike, meetings: Meetings) -> Tube:
 
 def draw_above(axes: Any, tube: Tube) -> None:
     """Draws the outlines, the places and the search box in which the receiver was lost."""
+    style = {"facecolor": BAND_COLOUR, "edgecolor": EDGE_LINE_COLOUR, "linewidth": 0.5, "alpha": 0.35}
     for number, ring in enumerate(tube.drawn()):
-        axes.fill(
-            *zip(*ring),
-            facecolor=BAND_COLOUR,
-            edgecolor=EDGE_LINE_COLOUR,
-            linewidth=0.5,
-            alpha=0.35,
-            label="" if number else "regions",
-        )
+        axes.fill(*zip(*ring), label="" if number else "regions", **style)
     if tube.lost:
-        axes.fill(
-            *zip(*tube.lost[1]),
-            facecolor="none",
-            edgecolor=LIMIT_COLOUR,
-            linewidth=1.2,
-            linestyle="--",
-            label=f"search box of epoch {tube.lost[0]}: lost",
-        )
+        index, ring = tube.lost
+        style = {"facecolor": "none", "edgecolor": LIMIT_COLOUR, "linewidth": 1.2, "linestyle": "--"}
+        axes.fill(*zip(*ring), label=f"search box of epoch {index}: lost", **style)
     if tube.known:
         axes.plot(*zip(*tube.known), color=PLACE_COLOUR, linewidth=1.2, label="known places")
     axes.set_aspect("equal", adjustable="datalim")
-    axes.grid(alpha=0.3)
-    axes.set_xlabel("east of the first region's middle, m")
-    axes.set_ylabel("north, m")
+    axes.set(xlabel="east of the first region's middle, m", ylabel="north, m")
 
 
 def draw_track(tube: Tube, beside: Tube | None, out: str, note: str | None) -> None:
     """Draws a track from above, and the lengths of its regions."""
-    pyplot, _ = tools()
-    figure = pyplot.figure(figsize=(11, 6.5))
+    figure = tools()[0].figure(figsize=(11, 6.5))
     grid = figure.add_gridspec(3, 2, width_ratios=(1.2, 1))
     above = figure.add_subplot(grid[:, 0])
     draw_above(above, tube)
-    for k, name in enumerate(("east", "north", "up")):
+    for k, name in enumerate(NAMES):
         axes = figure.add_subplot(grid[k, 1])
-        for other, colour, label in (
-            (beside, CUT_COLOUR, "the other log"),
-            (tube, EDGE_LINE_COLOUR, "this log"),
-        ):
+        for other, colour, label in ((beside, CUT_COLOUR, "the other log"), (tube, EDGE_LINE_COLOUR, "this log")):
             if other is not None:
                 times = [time - tube.times[0] for time in other.times]
-                axes.plot(
-                    times,
-                    [widths[k] for widths in other.widths],
-                    color=colour,
-                    linewidth=1.2,
-                    label=label,
-                )
+                axes.plot(times, [widths[k] for widths in other.widths], color=colour, linewidth=1.2, label=label)
         axes.set_ylim(bottom=0)
         axes.set_ylabel(f"{name}, m")
-        axes.grid(alpha=0.3)
         if beside is not None and k == 0:
-            axes.legend(fontsize=9, frameon=False)
-    axes.set_xlabel(f"s since {calendar(round(tube.times[0] * 1000) * PS_PER_MS)} GPS time")
-    figure.suptitle(tube.title() + (f"\n{note}" if note else ""), fontsize=11)
-    handles, labels = above.get_legend_handles_labels()
-    figure.legend(handles, labels, loc="lower left", ncol=len(handles), fontsize=9, frameon=False)
-    figure.tight_layout(rect=(0, 0.04, 1, 1))
-    save(figure, out)
+            axes.legend()
+    axes.set_xlabel(since(tube.times[0]))
+    figure.suptitle(with_note(tube.title(), note), fontsize=11)
+    finish(figure, legend_of(above), out, "lower left")
 
 
 def run_track(args: argparse.Namespace) -> None:
     """Draws a track."""
-    tube = tube_of(args.log, Meetings(args.places, read_places(args.places) if args.places else []))
-    beside = tube_of(args.beside, Meetings(None, [])) if args.beside else None
+    tube = tube_of(args.log, Meetings.of(args.places or None))
+    beside = tube_of(args.beside, Meetings.of(None)) if args.beside else None
     draw_track(tube, beside, args.out, args.note)
 
 
@@ -589,21 +472,21 @@ class Fenced:
         if boxes and self.frame is None:
             self.frame = Frame.at(region_of(epoch).middle())
         self.answers.append([fence.answer(boxes) for fence in self.fences])
-        self.rings.append(self.frame.outline(boxes) if boxes and self.frame else None)
+        self.rings.append(ring_above(self.frame, boxes) if boxes and self.frame else None)
         if place is not None and self.frame is not None:
-            self.known.append(self.frame.above(place))
+            self.known.append(self.frame.offset(place)[:2])
 
     def ring_of(self, fence: Zone) -> list[Flat]:
         """The outline of a zone; none before the first region."""
         if self.frame is None:
             return []
         if isinstance(fence, Corners):
-            return self.frame.outline([Box(*fence.low, *fence.high)])
+            return ring_above(self.frame, [Box(*fence.low, *fence.high)])
         points = [
             (x / divisor / UM_PER_M, y / divisor / UM_PER_M, z / divisor / UM_PER_M)
             for x, y, z, divisor in corners(fence.sides)
         ]
-        return convex_hull([self.frame.above(point) for point in points])
+        return convex_hull([self.frame.offset(point)[:2] for point in points])
 
     def title(self, number: int) -> str:
         """How many epochs say what of a zone."""
@@ -614,42 +497,40 @@ class Fenced:
 
 def draw_fence(axes: Any, fenced: Fenced, number: int) -> None:
     """Draws a zone and the regions in the colours of what they say of it."""
-    of_each = [
-        (ring, answers[number])
-        for ring, answers in zip(fenced.rings, fenced.answers)
-        if ring is not None
-    ]
-    for ring, answer in some_of(of_each):
-        axes.fill(
-            *zip(*ring),
-            facecolor=ANSWER_COLOURS[answer],
-            edgecolor=LIMIT_COLOUR,
-            linewidth=0.4,
-            alpha=0.6,
-        )
-    ring = fenced.ring_of(fenced.fences[number])
-    if ring:
-        axes.fill(
-            *zip(*ring), facecolor="none", edgecolor=PLACE_COLOUR, linewidth=1.4, linestyle="--"
-        )
+    said = [(ring, answers[number]) for ring, answers in zip(fenced.rings, fenced.answers) if ring is not None]
+    for ring, answer in some_of(said):
+        style = {"facecolor": ANSWER_COLOURS[answer], "edgecolor": LIMIT_COLOUR, "linewidth": 0.4, "alpha": 0.6}
+        axes.fill(*zip(*ring), **style)
+    zone = fenced.ring_of(fenced.fences[number])
+    if zone:
+        axes.fill(*zip(*zone), facecolor="none", edgecolor=PLACE_COLOUR, linewidth=1.4, linestyle="--")
     if fenced.known:
         axes.plot(*zip(*fenced.known), color=EDGE_LINE_COLOUR, linewidth=1)
     axes.set_aspect("equal", adjustable="datalim")
-    axes.grid(alpha=0.3)
     axes.set_title(fenced.title(number), fontsize=9)
+
+
+def fences_legend(fenced: Fenced) -> list[Any]:
+    """What the colours and lines beside zones mean."""
+    from matplotlib import lines, patches
+
+    colours = ANSWER_COLOURS.items()
+    legend: list[Any] = [
+        patches.Patch(color=colour, alpha=0.6, label=f"region: {answer}") for answer, colour in colours
+    ]
+    legend.append(lines.Line2D([], [], color=PLACE_COLOUR, linestyle="--", label="the zone"))
+    if fenced.known:
+        legend.append(lines.Line2D([], [], color=EDGE_LINE_COLOUR, label="known places"))
+    return legend
 
 
 def draw_fences(fenced: Fenced, out: str, note: str | None) -> None:
     """Draws a panel for each zone."""
-    pyplot, _ = tools()
-    from matplotlib import lines, patches
-
     count = len(fenced.fences)
     abreast = min(count, PANELS_ABREAST)
     rows = -(-count // abreast)
-    figure, panels = pyplot.subplots(
-        rows, abreast, figsize=(1 + 4.2 * abreast, 0.8 + 5 * rows), squeeze=False
-    )
+    size = (1 + 4.2 * abreast, 0.8 + 5 * rows)
+    figure, panels = tools()[0].subplots(rows, abreast, figsize=size, squeeze=False)
     for number, axes in enumerate(panels.flat):
         if number < count:
             draw_fence(axes, fenced, number)
@@ -657,19 +538,8 @@ def draw_fences(fenced: Fenced, out: str, note: str | None) -> None:
             axes.set_axis_off()
     figure.supxlabel("east of the first region's middle, m", fontsize=9, y=0.05)
     figure.supylabel("north, m", fontsize=9)
-    figure.suptitle(
-        f"{len(fenced.answers) + fenced.few} epochs" + (f"; {note}" if note else ""), fontsize=11
-    )
-    handles = [
-        patches.Patch(color=colour, alpha=0.6, label=f"region: {answer}")
-        for answer, colour in ANSWER_COLOURS.items()
-    ]
-    handles.append(lines.Line2D([], [], color=PLACE_COLOUR, linestyle="--", label="the zone"))
-    if fenced.known:
-        handles.append(lines.Line2D([], [], color=EDGE_LINE_COLOUR, label="known places"))
-    figure.legend(handles=handles, loc="lower center", ncol=len(handles), fontsize=9, frameon=False)
-    figure.tight_layout(rect=(0.01, 0.06, 1, 1))
-    save(figure, out)
+    figure.suptitle(with_note(f"{len(fenced.answers) + fenced.few} epochs", note, "; "), fontsize=11)
+    finish(figure, fences_legend(fenced), out, rect=(0.01, 0.06, 1, 1))
 
 
 def fences_of(paths: Sequence[PathLike], names: Sequence[str]) -> list[Zone]:
@@ -687,13 +557,8 @@ def fences_of(paths: Sequence[PathLike], names: Sequence[str]) -> list[Zone]:
 
 def run_zones(args: argparse.Namespace) -> None:
     """Draws zones."""
-    fenced = Fenced(
-        fences_of(args.zones, args.zone),
-        Meetings(args.places, read_places(args.places) if args.places else []),
-    )
-    for epoch in epochs(args.log):
-        fenced.add(epoch)
-    fenced.meetings.refuse_strangers()
+    fences = fences_of(args.zones, args.zone)
+    fenced = gathered(Fenced(fences, Meetings.of(args.places or None)), args.log)
     if fenced.frame is None:
         raise Error(f"{args.log} has no region to draw")
     draw_fences(fenced, args.out, args.note)
@@ -717,6 +582,15 @@ def diagram_end(points: list[Judged], limit: float | None, k: int) -> float:
     return 1.08 * max(lengths + ([limit] if limit is not None else []))
 
 
+def draw_limit(axes: Any, limit: float, end: float) -> None:
+    """Draws an alert limit along both axes of a panel, and where it is hazardous."""
+    axes.axhline(limit, color=LIMIT_COLOUR, linewidth=1, linestyle="--")
+    axes.axvline(limit, color=LIMIT_COLOUR, linewidth=1, linestyle="--")
+    axes.fill_between([limit, end], [limit, limit], color=PLACE_COLOUR, alpha=0.25, linewidth=0)
+    text = {"ha": "right", "va": "bottom", "color": LIMIT_COLOUR, "fontsize": 9}
+    axes.text(0.97 * end, limit, f"unavailable above {limit:g} m", **text)
+
+
 def draw_diagram(axes: Any, points: list[Judged], k: int, limit: float | None) -> None:
     """Draws one panel: the error across and the protection up, with the diagonal and the limit."""
     end = diagram_end(points, limit, k)
@@ -724,63 +598,30 @@ def draw_diagram(axes: Any, points: list[Judged], k: int, limit: float | None) -
     area = "misleading" if limit is None else "misleading; hazardous where dark"
     axes.text(0.97 * end, 0.03 * end, area, ha="right", va="bottom", color=PLACE_COLOUR, fontsize=9)
     for name, colour in POINTS:
-        shown = [it for it, cut in points if point_kind(it, cut) == (name, colour)]
+        shown = [(it.error[k], it.reach[k]) for it, cut in points if point_kind(it, cut) == (name, colour)]
         if shown:
-            axes.scatter(
-                [it.error[k] for it in shown],
-                [it.reach[k] for it in shown],
-                s=14,
-                color=colour,
-                linewidths=0,
-                label=f"{len(shown)}: {name}",
-                zorder=3,
-            )
+            axes.scatter(*zip(*shown), s=14, color=colour, linewidths=0, label=f"{len(shown)}: {name}", zorder=3)
     if limit is not None:
-        axes.axhline(limit, color=LIMIT_COLOUR, linewidth=1, linestyle="--")
-        axes.axvline(limit, color=LIMIT_COLOUR, linewidth=1, linestyle="--")
-        axes.fill_between([limit, end], [limit, limit], color=PLACE_COLOUR, alpha=0.25, linewidth=0)
-        axes.text(
-            0.97 * end,
-            limit,
-            f"unavailable above {limit:g} m",
-            ha="right",
-            va="bottom",
-            color=LIMIT_COLOUR,
-            fontsize=9,
-        )
-    axes.set_xlim(0, end)
-    axes.set_ylim(0, end)
-    axes.set_aspect("equal")
-    axes.grid(alpha=0.3)
+        draw_limit(axes, limit, end)
+    axes.set(xlim=(0, end), ylim=(0, end), aspect="equal")
 
 
 def draw_integrity(judge: Judge, points: list[Judged], out: str, note: str | None) -> None:
     """Draws the errors and the protections along the ground and up."""
-    pyplot, _ = tools()
-    figure, panels = pyplot.subplots(1, 2, figsize=(10, 6))
-    limits = (
-        (None, None) if judge.limits is None else (judge.limits.horizontal, judge.limits.vertical)
-    )
+    figure, panels = tools()[0].subplots(1, 2, figsize=(10, 6))
+    limits = (None, None) if judge.limits is None else (judge.limits.horizontal, judge.limits.vertical)
     for k, (axes, name) in enumerate(zip(panels, ("along the ground", "up or down"))):
         draw_diagram(axes, points, k, limits[k])
-        axes.set_xlabel(f"error of the region's middle {name}, m")
-        axes.set_ylabel(f"protection {name}, m")
-    title = [
-        judge.held_line(),
-        *judge.limit_lines(),
-        "of declared bounds, not of a probability",
-    ] + ([note] if note else [])
-    figure.suptitle("\n".join(title), fontsize=10)
-    handles, labels = panels[0].get_legend_handles_labels()
-    figure.legend(handles, labels, loc="lower center", ncol=len(handles), fontsize=9, frameon=False)
-    figure.tight_layout(rect=(0, 0.07, 1, 1))
-    save(figure, out)
+        axes.set(xlabel=f"error of the region's middle {name}, m", ylabel=f"protection {name}, m")
+    title = "\n".join([judge.held_line(), *judge.limit_lines(), "of declared bounds, not of a probability"])
+    figure.suptitle(with_note(title, note), fontsize=10)
+    finish(figure, legend_of(panels[0]), out, rect=(0, 0.07, 1, 1))
 
 
 def run_integrity(args: argparse.Namespace) -> None:
     """Draws errors against protection."""
     limits = Limits(*args.limit) if args.limit else None
-    judge = Judge(Meetings(args.places, read_places(args.places)), limits=limits)
+    judge = Judge(Meetings.of(args.places), limits=limits)
     points: list[Judged] = []
     for epoch in epochs(args.log):
         region = region_or_none(epoch)
@@ -793,65 +634,32 @@ def run_integrity(args: argparse.Namespace) -> None:
     draw_integrity(judge, points, args.out, args.note)
 
 
-def ends_well(name: str) -> str:
-    """A file's name that ends with .svg or .png."""
-    if not name.endswith((".svg", ".png")):
-        raise argparse.ArgumentTypeError("OUT ends with .svg or .png")
-    return name
-
-
 def arguments(parser: argparse.ArgumentParser) -> None:
     """The words of the command line."""
     ways = parser.add_subparsers(required=True)
-    region = ways.add_parser("region", help="one epoch, from above and from the side")
-    time = ways.add_parser("time", help="the extents over time")
-    track = ways.add_parser("track", help="the regions of a log of track along the way")
-    fenced = ways.add_parser("zones", help="the regions beside zones")
-    integrity = ways.add_parser(
-        "integrity", help="the error against the protection at known places"
-    )
-    works = (
-        (region, run_region),
-        (time, run_time),
-        (track, run_track),
-        (fenced, run_zones),
-        (integrity, run_integrity),
-    )
-    for way, work in works:
-        way.add_argument("log", metavar="LOG")
-        way.add_argument("out", metavar="OUT", type=ends_well)
-        way.add_argument(
-            "--places", metavar="FILE", required=way is integrity, help="a list of known places"
+    region, time, track, fenced, integrity = parsers = [
+        ways.add_parser(name, help=about)
+        for name, about in (
+            ("region", "one epoch, from above and from the side"),
+            ("time", "the extents over time"),
+            ("track", "the regions of a log of track along the way"),
+            ("zones", "the regions beside zones"),
+            ("integrity", "the error against the protection at known places"),
         )
+    ]
+    for way, work in zip(parsers, (run_region, run_time, run_track, run_zones, run_integrity)):
+        way.add_argument("log", metavar="LOG")
+        way.add_argument("out", metavar="OUT", type=name_ending(".svg", ".png", told=".svg or .png"))
+        way.add_argument("--places", metavar="FILE", required=way is integrity, help="a list of known places")
         way.add_argument("--note", metavar="TEXT", help="a further line of the title")
         way.set_defaults(work=work)
-    region.add_argument(
-        "--epoch", type=int, default=1, metavar="N", help="the epoch's number in the log (1)"
-    )
-    region.add_argument(
-        "--place", type=measure, nargs=3, metavar=("X", "Y", "Z"), help="a known place, m"
-    )
+    region.add_argument("--epoch", type=int, default=1, metavar="N", help="the epoch's number in the log (1)")
+    region.add_argument("--place", type=measure, nargs=3, metavar=("X", "Y", "Z"), help="a known place, m")
     time.add_argument("--moving", action="store_true", help="round the place of each epoch")
-    track.add_argument(
-        "--beside", metavar="LOG", help="another log, whose regions' lengths are drawn too"
-    )
+    track.add_argument("--beside", metavar="LOG", help="another log, whose regions' lengths are drawn too")
     fenced.add_argument("--zones", metavar="ZONES", nargs="+", required=True, help="files of zones")
-    fenced.add_argument(
-        "--zone", metavar="NAME", action="append", default=[], help="a zone that is drawn (all)"
-    )
-    integrity.add_argument(
-        "--limit",
-        type=alert_limit,
-        nargs=2,
-        metavar=("H", "V"),
-        help="alert limits along the ground and up, m",
-    )
+    fenced.add_argument("--zone", metavar="NAME", action="append", default=[], help="a zone that is drawn (all)")
+    limit_argument(integrity)
 
 
-def run(args: argparse.Namespace) -> int:
-    """Draws what the words named. The status."""
-    args.work(args)
-    return 0
-
-
-COMMAND = Command("draw", "pictures of regions, as SVG or PNG", arguments, run, __doc__)
+COMMAND = Command("draw", "pictures of regions, as SVG or PNG", arguments, work_of, __doc__)

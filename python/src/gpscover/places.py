@@ -1,9 +1,8 @@
 """Lists of known places, and the direction of a track.
 
-A file has a place on a line: GPS seconds, or date and time of day as 2008/05/26 05:59:30.000, and
-x, y, z in metres, as the solutions of RTKLIB in the earth-fixed frame have them; what follows isn't
-read, nor are lines that begin with % or #. A place belongs to the epoch within 0.1 s of it. Times
-are in ps since 1980-01-06 00:00:00 GPS time.
+A file has a place on a line: GPS seconds, or date and time of day as 2008/05/26 05:59:30.000, and x, y, z in metres, as
+the solutions of RTKLIB in the earth-fixed frame have them; what follows isn't read, nor are lines that begin with % or
+#. A place belongs to the epoch within 0.1 s of it. Times are in ps since 1980-01-06 00:00:00 GPS time.
 """
 
 from __future__ import annotations
@@ -14,7 +13,7 @@ import math
 
 from gpscover.command import measure
 from gpscover.errors import Error
-from gpscover.geodesy import Vector, dot, geodetic, local_axes
+from gpscover.geodesy import Frame, Vector
 from gpscover.log import GPS_EPOCH, LATEST_PS, PS_PER_MS, PS_PER_US, PathLike, calendar
 
 Place = tuple[int, Vector]  # the time in ps, and x, y, z in m
@@ -79,6 +78,11 @@ class Meetings:
         self.met = 0
         self.apart: int | None = None  # of the epoch and the place that are nearest, in ps
 
+    @classmethod
+    def of(cls, path: PathLike | None) -> Meetings:
+        """The places of a file; none of None."""
+        return cls(path, [] if path is None else read_places(path))
+
     def at(self, ps: int) -> Vector | None:
         """The place at a time in ps, or None. It is counted."""
         point = place_at(self.places, ps)
@@ -94,10 +98,7 @@ class Meetings:
         if self.met or self.apart is None:
             return
         first, last = (calendar(self.places[k][0]) for k in (0, -1))
-        words = (
-            f"{self.path} has no place within 0.1 s of {whom}: its places are of {first} to"
-            f" {last} GPS time"
-        )
+        words = f"{self.path} has no place within 0.1 s of {whom}: its places are of {first} to {last} GPS time"
         away = -self.apart // PS_PER_MS
         if LEAP_MS[0] < away <= LEAP_MS[1]:
             words += f", and the nearest is {away / 1000:g} s before it: are they in UTC?"
@@ -105,11 +106,10 @@ class Meetings:
 
 
 def direction(places: list[Place], ps: int) -> float | None:
-    """The azimuth in radians, clockwise from north, of a track at a time in ps; None where it gives
-    none.
+    """The azimuth in radians, clockwise from north, of a track at a time in ps; None where it gives none.
 
-    It is that of the way from the last place before the time to the first one behind it, where a
-    place within 0.1 s counts as neither, unless the track begins or ends there.
+    It is that of the way from the last place before the time to the first one behind it, where a place within 0.1 s
+    counts as neither, unless the track begins or ends there.
     """
     before = bisect.bisect_left(places, (ps - NEAR_PS,)) - 1
     behind = bisect.bisect_right(places, (ps + NEAR_PS, (math.inf,) * 3))
@@ -117,7 +117,5 @@ def direction(places: list[Place], ps: int) -> float | None:
     if not at_time and (before < 0 or behind == len(places)):
         return None
     start, end = places[max(before, 0)][1], places[min(behind, len(places) - 1)][1]
-    east, north, _ = local_axes(*geodetic(start)[:2])
-    way = [b - a for a, b in zip(start, end)]
-    along = dot(east, way), dot(north, way)
-    return math.atan2(*along) if math.hypot(*along) >= LEAST_WAY_M else None
+    east, north, _ = Frame.at(start).offset(end)
+    return math.atan2(east, north) if math.hypot(east, north) >= LEAST_WAY_M else None

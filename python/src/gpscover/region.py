@@ -1,15 +1,14 @@
-"""The region of an epoch: its extents along local east, north and up, in metres, from the kept
-boxes' corners.
-"""
+"""The region of an epoch: its extents along local east, north and up, in metres, from the kept boxes' corners."""
 
 from __future__ import annotations
 
 import math
 from collections.abc import Iterable, Sequence
 from dataclasses import dataclass
+from operator import add, sub
 
 from gpscover.errors import Error
-from gpscover.geodesy import Axes, Vector, dot, geodetic, local_axes
+from gpscover.geodesy import Frame, Vector
 from gpscover.log import UM_PER_M, Box, Epoch
 
 Extent = tuple[float, float]
@@ -19,14 +18,12 @@ FACES = ("-x", "-y", "-z", "+x", "+y", "+z")
 
 
 @dataclass
-class Region:
+class Region(Frame):
     """Where the kept boxes of an epoch lie.
 
     `extents` are (low, high) along east, north, up from `origin`.
     """
 
-    origin: Vector  # x, y, z in m; the axes are those at this point
-    axes: Axes  # the unit vectors east, north, up
     extents: tuple[Extent, Extent, Extent]
     clock: Extent  # the least and the greatest clock offset in m
     volume: float  # of the kept boxes, in m^3
@@ -41,19 +38,9 @@ class Region:
         east, north, up = ((low + high) / 2 for low, high in self.extents)
         return self.point((east, north, up))
 
-    def point(self, offset: Sequence[float]) -> Vector:
-        """The point x, y, z at an offset along east, north and up from the origin."""
-        x, y, z = (
-            self.origin[k] + sum(offset[j] * self.axes[j][k] for j in range(3)) for k in range(3)
-        )
-        return x, y, z
-
     def contains(self, point: Sequence[float]) -> bool:
         """Whether a point is within the extents along each of the three axes."""
-        offset = [p - o for p, o in zip(point, self.origin)]
-        return all(
-            low <= dot(axis, offset) <= high for axis, (low, high) in zip(self.axes, self.extents)
-        )
+        return all(low <= part <= high for part, (low, high) in zip(self.offset(point), self.extents))
 
 
 def upward(value: float) -> float:
@@ -67,34 +54,22 @@ def half_sides(box: Box) -> Vector:
     return (d - a) / TWICE_UM, (e - b) / TWICE_UM, (f - c) / TWICE_UM
 
 
-def offset_of(box: Box, origin: Sequence[int]) -> Vector:
-    """The middle of a box as seen from an origin in um, in m.
+def offsets(boxes: Iterable[Box], origin: Sequence[int]) -> list[Vector]:
+    """The middles of boxes as seen from an origin in um, in m.
 
-    The difference is taken in whole numbers.
+    The differences are taken in whole numbers.
     """
-    a, b, c, d, e, f = box
-    x, y, z = origin
-    return (
-        (a + d - 2 * x) / TWICE_UM,
-        (b + e - 2 * y) / TWICE_UM,
-        (c + f - 2 * z) / TWICE_UM,
-    )
+    x, y, z = (2 * part for part in origin)
+    return [((a + d - x) / TWICE_UM, (b + e - y) / TWICE_UM, (c + f - z) / TWICE_UM) for a, b, c, d, e, f in boxes]
 
 
-def extent_along(
-    axis: Sequence[float], centres: Sequence[Vector], halves: Sequence[Vector]
-) -> Extent:
-    """The least and the greatest of the boxes' corners along an axis, from the middles of boxes and
-    half sides.
-    """
+def extent_along(axis: Sequence[float], centres: Sequence[Vector], halves: Sequence[Vector]) -> Extent:
+    """The least and the greatest of the boxes' corners along an axis, from the middles of boxes and half sides."""
     a, b, c = axis
     d, e, f = abs(a), abs(b), abs(c)
-    lows, highs = [], []
-    for (x, y, z), (p, q, r) in zip(centres, halves):
-        middle, reach = a * x + b * y + c * z, d * p + e * q + f * r
-        lows.append(middle - reach)
-        highs.append(middle + reach)
-    return min(lows), max(highs)
+    middles = [a * x + b * y + c * z for x, y, z in centres]
+    reaches = [d * p + e * q + f * r for p, q, r in halves]
+    return min(map(sub, middles, reaches)), max(map(add, middles, reaches))
 
 
 def touched_faces(hull: Box, root: Box) -> list[str]:
@@ -109,9 +84,7 @@ def hull_of(boxes: Iterable[Box]) -> Box:
 
 
 def region_of(epoch: Epoch, origin: Sequence[float] | None = None) -> Region:
-    """The region of an epoch that has kept boxes, with the axes at `origin` in m, or at the middle
-    of their hull.
-    """
+    """The region of an epoch that has kept boxes, with the axes at `origin` in m, or at the middle of their hull."""
     boxes = epoch.boxes
     if not boxes or epoch.search is None:
         raise Error(f"epoch {epoch.index} has no region")
@@ -120,14 +93,14 @@ def region_of(epoch: Epoch, origin: Sequence[float] | None = None) -> Region:
     if origin is not None:
         origin_um = [round(value * UM_PER_M) for value in origin]
     x, y, z = (value / UM_PER_M for value in origin_um)
-    axes = local_axes(*geodetic((x, y, z))[:2])
-    centres = [offset_of(box, origin_um) for box in boxes]
+    frame = Frame.at((x, y, z))
+    centres = offsets(boxes, origin_um)
     halves = [half_sides(box) for box in boxes]
-    east, north, up = (extent_along(axis, centres, halves) for axis in axes)
+    east, north, up = (extent_along(axis, centres, halves) for axis in frame.axes)
     lows, highs = zip(*(kept.clock for kept in epoch.kept))
     return Region(
-        (x, y, z),
-        axes,
+        frame.origin,
+        frame.axes,
         (east, north, up),
         (min(lows) / UM_PER_M, max(highs) / UM_PER_M),
         sum(8 * p * q * r for p, q, r in halves),

@@ -54,24 +54,15 @@ SHOWN_OUTLIERS = range(5)
 DIGITS = 3
 LONG_EXPONENT = re.compile(r"[eE][+-]?[\d_]{4}")  # of a fraction that no memory holds
 ASSUMED = (
-    (
-        "assumed: each satellite's error breaks its bounds with probability at most p, and they do"
-        " so independently;"
-    ),
-    (
-        "where one cause breaks many at once (a wall, a fault of the constellation) these numbers"
-        " mean nothing"
-    ),
+    "assumed: each satellite's error breaks its bounds with probability at most p, and they do so independently;",
+    "where one cause breaks many at once (a wall, a fault of the constellation) these numbers mean nothing",
 )
 
 
 def chance_of_more(satellites: int, outliers: int, p: Fraction) -> Fraction:
-    """The probability that more than so many satellites break their bounds, if each does with
-    probability p."""
+    """The probability that more than so many satellites break their bounds, if each does with probability p."""
     counts = range(outliers + 1, satellites + 1)
-    return sum(
-        (comb(satellites, k) * p**k * (1 - p) ** (satellites - k) for k in counts), Fraction(0)
-    )
+    return sum((comb(satellites, k) * p**k * (1 - p) ** (satellites - k) for k in counts), Fraction(0))
 
 
 def least_outliers(satellites: int, p: Fraction, risk: Fraction) -> int:
@@ -80,8 +71,7 @@ def least_outliers(satellites: int, p: Fraction, risk: Fraction) -> int:
 
 
 def greatest_p(satellites: int, outliers: int, risk: Fraction) -> tuple[Fraction, Fraction | None]:
-    """The greatest p of three digits that is borne, and the next one, which isn't; (1, None) where
-    each p is.
+    """The greatest p of three digits that is borne, and the next one, which isn't; (1, None) where each p is.
 
     The probability grows with p, so p is found by halving: first its exponent, then its digits.
     """
@@ -118,14 +108,10 @@ def mark_of(satellites: int, outliers: int) -> str:
 
 
 def answered(satellites: int, args: argparse.Namespace) -> tuple[int, tuple[str, ...]]:
-    """q, its probability or the p borne and the one that isn't, and the mark, for so many
-    satellites."""
+    """q, its probability or the p borne and the one that isn't, and the mark, for so many satellites."""
     if args.p is None:
         borne, more = greatest_p(satellites, args.q, args.risk)
-        return args.q, (
-            decimal_of(borne, decimal.ROUND_FLOOR),
-            decimal_of(more) if more else "none",
-        )
+        return args.q, (decimal_of(borne, decimal.ROUND_FLOOR), decimal_of(more) if more else "none")
     outliers = args.q if args.q is not None else least_outliers(satellites, args.p, args.risk)
     return outliers, (decimal_of(chance_of_more(satellites, outliers, args.p)),)
 
@@ -147,10 +133,7 @@ def grid_lines(satellites: Iterable[int], p: Fraction) -> Iterator[str]:
     """The probabilities for several q, a line for each number of satellites."""
     yield "sats" + "".join(f"  {f'q = {outliers}':>11}" for outliers in SHOWN_OUTLIERS)
     for number in satellites:
-        cells = (
-            decimal_of(chance_of_more(number, q, p)) if number >= q + 4 else "few"
-            for q in SHOWN_OUTLIERS
-        )
+        cells = (decimal_of(chance_of_more(number, q, p)) if number >= q + 4 else "few" for q in SHOWN_OUTLIERS)
         yield f"{number:4}" + "".join(f"  {cell:>11}" for cell in cells)
 
 
@@ -170,9 +153,7 @@ def single_lines(satellites: int, args: argparse.Namespace) -> Iterator[str]:
         yield f"more than {outliers} of {satellites}: at most {values[0]}, exactly {chance}"
     if mark:
         yield f"{mark}: " + (
-            f"an epoch is paved from {outliers + 4} satellites on"
-            if mark == "few"
-            else "the settings allow no such q"
+            f"an epoch is paved from {outliers + 4} satellites on" if mark == "few" else "the settings allow no such q"
         )
 
 
@@ -185,16 +166,12 @@ def epochs_by_satellites(path: PathLike) -> list[tuple[int, int]]:
 
 
 def sum_line(counts: list[tuple[int, int]], args: argparse.Namespace) -> str:
-    """The sum over the paved epochs, which bounds the probability that it happens in any of
-    them."""
+    """The sum over the paved epochs, which bounds the probability that it happens in any of them."""
     chance, paved = Fraction(0), 0
     for satellites, count in counts:
         outliers, _ = answered(satellites, args)
         if not mark_of(satellites, outliers):
-            chance, paved = (
-                chance + count * chance_of_more(satellites, outliers, args.p),
-                paved + count,
-            )
+            chance, paved = (chance + count * chance_of_more(satellites, outliers, args.p), paved + count)
     return (
         f"in {paved} epochs without a mark: at most {decimal_of(min(chance, Fraction(1)))} that it"
         " happens in any of them (the sum, so whatever one epoch has to do with another)"
@@ -226,9 +203,7 @@ def probability(word: str) -> Fraction:
             raise ValueError
         value = Fraction(word)
     except (ValueError, ZeroDivisionError):
-        raise argparse.ArgumentTypeError(
-            f"{word} is no decimal as 1e-5 and no fraction as 1/1000"
-        ) from None
+        raise argparse.ArgumentTypeError(f"{word} is no decimal as 1e-5 and no fraction as 1/1000") from None
     if not 0 <= value <= 1:
         raise argparse.ArgumentTypeError(f"{word} isn't from 0 to 1")
     return value
@@ -264,19 +239,11 @@ def satellite_counts(word: str) -> range:
 
 def arguments(parser: argparse.ArgumentParser) -> None:
     """The words of the command line."""
-    parser.add_argument(
-        "--p", type=probability, help="the probability that a satellite's error breaks its bounds"
-    )
-    parser.add_argument(
-        "--q", type=outlier_count, help="how many satellites may break their bounds"
-    )
-    parser.add_argument(
-        "--risk", type=required_risk, help="the probability that is allowed in an epoch"
-    )
+    parser.add_argument("--p", type=probability, help="the probability that a satellite's error breaks its bounds")
+    parser.add_argument("--q", type=outlier_count, help="how many satellites may break their bounds")
+    parser.add_argument("--risk", type=required_risk, help="the probability that is allowed in an epoch")
     numbers = parser.add_mutually_exclusive_group()
-    numbers.add_argument(
-        "--satellites", type=satellite_counts, default=range(4, 17), metavar="N[-M]"
-    )
+    numbers.add_argument("--satellites", type=satellite_counts, default=range(4, 17), metavar="N[-M]")
     numbers.add_argument("--log", metavar="LOG", help="take the numbers of satellites from a log")
 
 

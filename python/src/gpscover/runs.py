@@ -32,7 +32,7 @@ Progress = Callable[[int], None]  # is called with the number of each epoch that
 
 YES = re.compile(r"yes (\d+)")
 NO = re.compile(r"no (\d+) (\w+) line (\d+)(.*)")
-REFUSED = re.compile(r"(settings|nav|obs|zones|log|rows) (\d+) (\w+)(?: line (\d+))?(.*)")
+REFUSED = re.compile(r"(settings|nav|station|obs|zones|log|rows) (\d+) (\w+)(?: line (\d+))?(.*)")
 
 
 class ProgramError(Error):
@@ -48,7 +48,7 @@ class Refused(ProgramError):
 
     def __init__(self, status: int, said: str, role: str, reason: tuple[int, str, int | None]):
         super().__init__(status, said)
-        self.role = role  # settings, nav, obs, zones, log or rows
+        self.role = role  # settings, nav, station, obs, zones, log or rows
         self.number, self.name, self.line = reason
 
 
@@ -114,10 +114,10 @@ def settings_file(settings: PathLike | Settings) -> Iterator[str]:
         yield str(path)
 
 
-def chosen(first: int | None, last: int | None) -> list[str]:
-    """The words that select epochs."""
-    words = [] if first is None else ["--from", str(first)]
-    return words + ([] if last is None else ["--to", str(last)])
+def chosen(first: int | None, last: int | None, station: PathLike | None) -> list[str]:
+    """The words that select epochs, and that name the file of a station."""
+    given = {"--from": first, "--to": last, "--station": station}
+    return [word for name, it in given.items() if it is not None for word in (name, str(it))]
 
 
 def lines_of(words: list[str]) -> Iterator[str]:
@@ -169,16 +169,18 @@ def solve(
     *,
     first: int | None = None,
     last: int | None = None,
+    station: PathLike | None = None,
     program: PathLike | None = None,
     progress: Progress | None = None,
 ) -> Report:
     """Solves the epochs of a receiver's files and writes the log.
 
-    `first` and `last` select epochs by their numbers in OBS. Refused where a file isn't accepted,
-    ProgramError where the run ends otherwise.
+    `first` and `last` select epochs by their numbers in OBS. `station` is the observation file of a
+    second receiver at a known place. Refused where a file isn't accepted, ProgramError where the run
+    ends otherwise.
     """
     files = (obs, nav, settings, log)
-    return solved("solve", files, chosen(first, last), program, progress)
+    return solved("solve", files, chosen(first, last, station), program, progress)
 
 
 def track(
@@ -189,12 +191,13 @@ def track(
     *,
     first: int | None = None,
     last: int | None = None,
+    station: PathLike | None = None,
     program: PathLike | None = None,
     progress: Progress | None = None,
 ) -> Report:
     """The same for a receiver whose greatest speed the settings declare."""
     files = (obs, nav, settings, log)
-    return solved("track", files, chosen(first, last), program, progress)
+    return solved("track", files, chosen(first, last, station), program, progress)
 
 
 def verdict_of(words: list[str]) -> Verdict:
@@ -230,10 +233,11 @@ def check(
     *,
     first: int | None = None,
     last: int | None = None,
+    station: PathLike | None = None,
     program: PathLike | None = None,
 ) -> Verdict:
     """Checks a log of `solve` against its files. Refused where a file isn't accepted."""
-    return checked("check", (obs, nav, settings, log), chosen(first, last), program)
+    return checked("check", (obs, nav, settings, log), chosen(first, last, station), program)
 
 
 def retrack(
@@ -244,10 +248,11 @@ def retrack(
     *,
     first: int | None = None,
     last: int | None = None,
+    station: PathLike | None = None,
     program: PathLike | None = None,
 ) -> Verdict:
     """Checks a log of `track` against its files. Refused where a file isn't accepted."""
-    return checked("retrack", (obs, nav, settings, log), chosen(first, last), program)
+    return checked("retrack", (obs, nav, settings, log), chosen(first, last, station), program)
 
 
 def judge(log: PathLike, *, program: PathLike | None = None) -> Verdict:
@@ -274,13 +279,14 @@ def guard(
     tracked: bool = False,
     first: int | None = None,
     last: int | None = None,
+    station: PathLike | None = None,
     program: PathLike | None = None,
 ) -> list[Guarded]:
     """Checks a log, and says what its regions say of zones; `tracked` where it is one of `track`.
 
     Refused where a file isn't accepted, or the log fails a test.
     """
-    options = chosen(first, last) + (["--track"] if tracked else [])
+    options = chosen(first, last, station) + (["--track"] if tracked else [])
     with settings_file(settings) as toml:
         words = [str(find_program(program)), "guard", *options, "--", str(obs), str(nav), toml]
         lines = list(lines_of([*words, str(zones), str(log)]))

@@ -13,7 +13,7 @@ from typing import Any
 from gpscover.errors import Error
 from gpscover.log import PathLike
 
-__all__ = ["Bounds", "Galileo", "Search", "Settings", "SettingsError", "Signal"]
+__all__ = ["Bounds", "Galileo", "Search", "Settings", "SettingsError", "Signal", "Station"]
 
 Pair = tuple[int, int]  # [low, high] in mm
 Three = tuple[int, int, int]
@@ -67,6 +67,16 @@ class Bounds:
 
 
 @dataclass(frozen=True)
+class Station:
+    """The table [station]: where a second receiver stands, in mm, or that its header says so, and
+    how far in s its epochs may be from those of the receiver. All bounds are of differences then.
+    """
+
+    place: str | Three
+    age: int
+
+
+@dataclass(frozen=True)
 class Settings:
     """All tables. `satellites` has what is added for one satellite, in mm; `speed` is in mm/s."""
 
@@ -76,6 +86,7 @@ class Settings:
     galileo: Galileo | None = None
     speed: int | None = None
     satellites: dict[str, Pair] = field(default_factory=dict)
+    station: Station | None = None
 
     def to_toml(self) -> str:
         """The text of a file of settings."""
@@ -84,6 +95,8 @@ class Settings:
             tables["galileo"] = keys_of(self.galileo)
         if self.speed is not None:
             tables["motion"] = {"speed": self.speed}
+        if self.station is not None:
+            tables["station"] = keys_of(self.station)
         tables["bounds"] = keys_of(self.bounds)
         if self.satellites:
             tables["satellite"] = dict(self.satellites)
@@ -161,15 +174,23 @@ def pair(value: Any) -> Pair:
     return whole(low), whole(high)
 
 
+def station_of(table: dict[str, Any]) -> Station:
+    """The table [station]."""
+    found = Station(**table)
+    if isinstance(found.place, str):
+        return found
+    x, y, z = map(whole, found.place)
+    return Station((x, y, z), found.age)
+
+
 def settings_of(tree: dict[str, Any]) -> Settings:
     """The settings of a tree of tables."""
-    unknown = set(tree) - {"search", "signal", "galileo", "motion", "bounds", "satellite"}
+    known = {"search", "signal", "galileo", "motion", "station", "bounds", "satellite"}
+    unknown = set(tree) - known
     if unknown:
         raise ValueError(f"unknown table {sorted(unknown)[0]}")
-    tables = {
-        name: {key: frozen(value) for key, value in table.items()} for name, table in tree.items()
-    }
-    galileo = tables.get("galileo")
+    tables = {name: {key: frozen(value) for key, value in table.items()} for name, table in tree.items()}
+    galileo, station = tables.get("galileo"), tables.get("station")
     return Settings(
         Search(**tables["search"]),
         Signal(**tables["signal"]),
@@ -177,4 +198,5 @@ def settings_of(tree: dict[str, Any]) -> Settings:
         Galileo(**galileo) if galileo is not None else None,
         tables.get("motion", {}).get("speed"),
         {name: pair(value) for name, value in tables.get("satellite", {}).items()},
+        station_of(station) if station is not None else None,
     )

@@ -46,19 +46,17 @@ from typing import Any
 
 from gpscover.command import Command, measure
 from gpscover.errors import Error
-from gpscover.geodesy import Vector, dot, earth_fixed, geodetic, local_axes
+from gpscover.geodesy import Frame, Vector, earth_fixed, geodetic, local_axes
 from gpscover.log import PathLike, epochs
 from gpscover.outline import Flat
-from gpscover.places import Meetings, read_places
+from gpscover.places import Meetings
 from gpscover.zones import GREATEST, LONGEST, Side, Whole
 
 MOST_SIDES = 16
 LONGEST_NAME = 16
 ROUND_SIDES = 12
 UM = 10**6
-ARITHMETIC_UM = (
-    1000  # more than the rounding of the numbers of this script, for a point near the earth
-)
+ARITHMETIC_UM = 1000  # more than the rounding of the numbers of this script, for a point near the earth
 WIDEST_M = 50_000
 
 
@@ -111,11 +109,8 @@ def grown(faces: list[Face], points: list[Vector]) -> list[Side]:
 
 
 def limits(faces: list[Face]) -> list[tuple[Vector, Fraction]]:
-    """The half-spaces (out, most) of a shape: each ends at the innermost of its face's points, in
-    um."""
-    return [
-        (face.out, min(product(face.out, in_um(point)) for point in face.points)) for face in faces
-    ]
+    """The half-spaces (out, most) of a shape: each ends at the innermost of its face's points, in um."""
+    return [(face.out, min(product(face.out, in_um(point)) for point in face.points)) for face in faces]
 
 
 def drawn_in(faces: list[Face], by: int) -> list[Side]:
@@ -161,9 +156,7 @@ def shrunk(faces: list[Face]) -> list[Side]:
         if not points:
             raise ShapeError("nothing is left of it")
         if all(
-            product(out, point[:3]) <= (most - ARITHMETIC_UM) * point[3]
-            for out, most in bounds
-            for point in points
+            product(out, point[:3]) <= (most - ARITHMETIC_UM) * point[3] for out, most in bounds for point in points
         ):
             return sides
         by *= 2
@@ -179,38 +172,21 @@ def prism(name: str, faces: list[Face], points: list[Vector], purpose: str) -> l
         raise ShapeError(f"{name}: a prism has at most {MOST_SIDES} sides")
     if any(abs(most) > GREATEST for _, most in sides):
         raise ShapeError(f"{name}: it is too far away")
-    return [f"prism {name} {len(sides)}"] + [
-        f"side {x} {y} {z} {most}" for (x, y, z), most in sides
-    ]
+    return [f"prism {name} {len(sides)}"] + [f"side {x} {y} {z} {most}" for (x, y, z), most in sides]
 
 
 # ---- shapes over the ground
 
 
-class Ground:
-    """The plane that touches the ellipsoid below a place: east, north and up in metres, from that
-    place."""
+class Ground(Frame):
+    """The plane that touches the ellipsoid below a place: east, north and up in metres, from that place."""
 
     def __init__(self, latitude: float, longitude: float) -> None:
-        self.place = (latitude, longitude)
-        self.axes = local_axes(latitude, longitude)
-        self.origin = earth_fixed(latitude, longitude, 0.0)
+        super().__init__(earth_fixed(latitude, longitude, 0.0), local_axes(latitude, longitude))
 
     def local(self, latitude: float, longitude: float, height: float) -> Vector:
         """East, north and up of a point."""
-        away = [p - o for p, o in zip(earth_fixed(latitude, longitude, height), self.origin)]
-        east, north, up = (dot(away, axis) for axis in self.axes)
-        return east, north, up
-
-    def direction(self, parts: Vector) -> Vector:
-        """A vector of east, north and up parts in the earth-fixed frame."""
-        x, y, z = (sum(part * axis[i] for part, axis in zip(parts, self.axes)) for i in range(3))
-        return x, y, z
-
-    def point(self, parts: Vector) -> Vector:
-        """A point of east, north and up in the earth-fixed frame."""
-        x, y, z = (o + d for o, d in zip(self.origin, self.direction(parts)))
-        return x, y, z
+        return self.offset(earth_fixed(latitude, longitude, height))
 
 
 def upright(ground: Ground, rings: list[list[Vector]], low: float, high: float) -> Shape:
@@ -226,36 +202,27 @@ def upright(ground: Ground, rings: list[list[Vector]], low: float, high: float) 
         if not length:
             raise ShapeError("two of its corners are one point")
         faces.append(
-            Face(
-                ground.direction((north / length, -east / length, 0.0)),
-                [below[i], below[j], above[i], above[j]],
-            )
+            Face(ground.direction((north / length, -east / length, 0.0)), [below[i], below[j], above[i], above[j]])
         )
     faces.append(Face(scaled(-1, ground.axes[2]), [*below, middle_low]))
     faces.append(Face(ground.axes[2], [*above, middle_high]))
     return faces, [*below, *above, middle_low, middle_high]
 
 
-def place_lines(
-    name: str, place: Sequence[float], radius: float, up: float, purpose: str
-) -> list[str]:
+def place_lines(name: str, place: Sequence[float], radius: float, up: float, purpose: str) -> list[str]:
     """A place: a prism of 12 sides round its circle for `outside`, in it for `inside`."""
     latitude, longitude, height = place
     ground = Ground(math.radians(latitude), math.radians(longitude))
     far = radius / math.cos(math.pi / ROUND_SIDES) if purpose == "outside" else radius
     turns = [2 * math.pi * k / ROUND_SIDES for k in range(ROUND_SIDES)]
     low, high = height - up, height + up
-    rings = [
-        [(far * math.cos(t), far * math.sin(t), level) for t in turns] for level in (low, high)
-    ]
+    rings = [[(far * math.cos(t), far * math.sin(t), level) for t in turns] for level in (low, high)]
     return prism(name, *upright(ground, rings, low, high), purpose)
 
 
-def reported_lines(
-    name: str, path: PathLike, log: PathLike, radius: float, up: float, purpose: str
-) -> list[str]:
+def reported_lines(name: str, path: PathLike, log: PathLike, radius: float, up: float, purpose: str) -> list[str]:
     """A place for each epoch of a log that has one in a list of places, within 0.1 s."""
-    meetings = Meetings(path, read_places(path))
+    meetings = Meetings.of(path)
     written: list[str] = []
     for epoch in epochs(log):
         place = meetings.at(epoch.ps)
@@ -282,16 +249,12 @@ def area_lines(name: str, ring: list[Vector], low: float, high: float, purpose: 
         around, flat = around[::-1], flat[::-1]
     whole_ring = is_convex(flat) and len(around) <= MOST_SIDES - 2
     if not whole_ring and purpose == "inside":
-        raise ShapeError(
-            f"{name}: for inside it must be convex, with at most {MOST_SIDES - 2} corners"
-        )
+        raise ShapeError(f"{name}: for inside it must be convex, with at most {MOST_SIDES - 2} corners")
     parts = [tuple(range(len(around)))] if whole_ring else triangles(flat)
     written: list[str] = []
     for number, part in enumerate(parts, 1):
         rings = [[ground.local(*around[i], height) for i in part] for height in (low, high)]
-        written += prism(
-            name if whole_ring else f"{name}-{number}", *upright(ground, rings, low, high), purpose
-        )
+        written += prism(name if whole_ring else f"{name}-{number}", *upright(ground, rings, low, high), purpose)
     return written
 
 
@@ -312,8 +275,7 @@ def is_convex(flat: list[Flat]) -> bool:
 
 
 def triangles(flat: list[Flat]) -> list[tuple[int, ...]]:
-    """A counterclockwise polygon cut into triangles, as the places of their corners: one ear after
-    another."""
+    """A counterclockwise polygon cut into triangles, as the places of their corners: one ear after another."""
     left = list(range(len(flat)))
     found: list[tuple[int, ...]] = []
     while len(left) > 3:
@@ -326,16 +288,12 @@ def triangles(flat: list[Flat]) -> list[tuple[int, ...]]:
 
 
 def is_ear(flat: list[Flat], left: list[int], k: int) -> bool:
-    """Whether the corner turns left, and no other corner lies in the triangle with its
-    neighbours."""
+    """Whether the corner turns left, and no other corner lies in the triangle with its neighbours."""
     a, b, c = (flat[left[i % len(left)]] for i in (k - 1, k, k + 1))
     if turns_left(a, b, c) <= 0:
         return False
     others = (flat[i] for i in left if flat[i] not in (a, b, c))
-    return not any(
-        turns_left(a, b, p) >= 0 and turns_left(b, c, p) >= 0 and turns_left(c, a, p) >= 0
-        for p in others
-    )
+    return not any(turns_left(a, b, p) >= 0 and turns_left(b, c, p) >= 0 and turns_left(c, a, p) >= 0 for p in others)
 
 
 # ---- lanes
@@ -353,9 +311,7 @@ def unit(a: Sequence[float]) -> Vector:
     return x, y, z
 
 
-def lane_lines(
-    name: str, line: list[Vector], width: float, low: float, high: float, purpose: str
-) -> list[str]:
+def lane_lines(name: str, line: list[Vector], width: float, low: float, high: float, purpose: str) -> list[str]:
     """A polyline of (latitude, longitude, height) with a width.
 
     A leg for `outside` goes on by half of the width at both ends, so that the corner between two
@@ -366,9 +322,7 @@ def lane_lines(
     beyond = width / 2 if purpose == "outside" else 0.0
     written: list[str] = []
     for number, (start, end) in enumerate(zip(line, line[1:]), 1):
-        written += prism(
-            f"{name}-{number}", *leg(start, end, width / 2, low, high, beyond), purpose
-        )
+        written += prism(f"{name}-{number}", *leg(start, end, width / 2, low, high, beyond), purpose)
     return written
 
 
@@ -395,9 +349,7 @@ def leg(start: Vector, end: Vector, half: float, low: float, high: float, beyond
         for side in (-1, 1)
         for level in (low, high)
     }
-    tops = [
-        point(middle, 0.0, side * half, level + bulge) for side in (-1, 1) for level in (low, high)
-    ]
+    tops = [point(middle, 0.0, side * half, level + bulge) for side in (-1, 1) for level in (low, high)]
     faces = [
         Face(scaled(sign, axis), [p for key, p in shape.items() if key[k] == wanted])
         for k, axis, pairs in (
@@ -462,14 +414,7 @@ def places_of(path: PathLike, kind: str) -> list[Vector]:
     """The places of a file. ShapeError where its text, whatever it is, has none."""
     try:
         found = places_in(Path(path).read_text(encoding="utf-8"), kind)
-    except (
-        ValueError,
-        TypeError,
-        LookupError,
-        AttributeError,
-        RecursionError,
-        xml.etree.ElementTree.ParseError,
-    ):
+    except (ValueError, TypeError, LookupError, AttributeError, RecursionError, xml.etree.ElementTree.ParseError):
         found = []
     if not found:
         raise ShapeError(f"{path}: there is no {kind} in it, or not all of its places are numbers")
@@ -482,10 +427,7 @@ def places_of(path: PathLike, kind: str) -> list[Vector]:
 def reach_lines(name: str, latitude: float, longitude: float) -> list[str]:
     """East, north and up at a place."""
     axes = local_axes(math.radians(latitude), math.radians(longitude))
-    return [
-        "reach {}-{} {} {} {}".format(name, letter, *whole(axis))
-        for letter, axis in zip("enu", axes)
-    ]
+    return ["reach {}-{} {} {} {}".format(name, letter, *whole(axis)) for letter, axis in zip("enu", axes)]
 
 
 def field_list(names: list[str]) -> Callable[[str], list[Any]]:
@@ -494,13 +436,8 @@ def field_list(names: list[str]) -> Callable[[str], list[Any]]:
     def fields(text: str) -> list[Any]:
         words = text.split(",")
         if len(words) != len(names) or not re.fullmatch("[a-z0-9-]{1,12}", words[0]):
-            raise argparse.ArgumentTypeError(
-                f"it is {','.join(names)}, the name 1 to 12 of a-z, 0-9 and -"
-            )
-        return [
-            field if name in ("NAME", "FILE", "LOG") else measure(field)
-            for name, field in zip(names, words)
-        ]
+            raise argparse.ArgumentTypeError(f"it is {','.join(names)}, the name 1 to 12 of a-z, 0-9 and -")
+        return [field if name in ("NAME", "FILE", "LOG") else measure(field) for name, field in zip(names, words)]
 
     return fields
 
@@ -516,11 +453,7 @@ def arguments(parser: argparse.ArgumentParser) -> None:
         ("--reach", "NAME LAT LON"),
     ):
         parser.add_argument(
-            option,
-            action="append",
-            default=[],
-            type=field_list(names.split()),
-            metavar=names.replace(" ", ","),
+            option, action="append", default=[], type=field_list(names.split()), metavar=names.replace(" ", ",")
         )
 
 

@@ -54,7 +54,7 @@ from gpscover import kml
 from gpscover.command import Command, measure, whole_file
 from gpscover.errors import Error, UsageError
 from gpscover.geodesy import geodetic
-from gpscover.integrity import Judge, Limits, Numbers, alert_limit
+from gpscover.integrity import Judge, Limits, Numbers, limit_argument
 from gpscover.log import PS_PER_MS, UM_PER_M, Box, Epoch, PathLike, SkipReason, calendar, epochs
 from gpscover.observations import file_epochs
 from gpscover.places import Meetings, read_places
@@ -83,11 +83,11 @@ HINTS = {
     SkipReason.NO_EPHEMERIS: OTHER_DAY,
     SkipReason.NOT_NEAR_IN_TIME: OTHER_DAY,
     SkipReason.NEAR_EARTH_CENTRE: NO_CENTRE,
+    SkipReason.NOT_SEEN_BY_STATION: "; is its file of another day, or station.age too short?",
+    SkipReason.FAR_FROM_STATION: "; is a clock 16 ms off, or the station's file another one's?",
 }
 ONE_MESSAGE = "; only records of F/NAV are taken, or by galileo.message those of I/NAV"
-GALILEO_HINTS = HINTS | dict.fromkeys(
-    (SkipReason.NO_EPHEMERIS, SkipReason.NOT_NEAR_IN_TIME), ONE_MESSAGE
-)
+GALILEO_HINTS = HINTS | dict.fromkeys((SkipReason.NO_EPHEMERIS, SkipReason.NOT_NEAR_IN_TIME), ONE_MESSAGE)
 EARTH_M = (6_300_000, 6_500_000)
 UM_PER_MM = 1000
 MOST_HALF_MM = 100_000_000  # the settings' limit
@@ -113,23 +113,15 @@ def mark_of(epoch: Epoch, region: Region | None) -> str:
 
 
 def text_cells(epoch: Epoch, region: Region | None) -> list[str]:
-    """The values of an epoch as its line shows them, up to the mark; without a region the first
-    three.
-    """
+    """The values of an epoch as its line shows them, up to the mark; without a region the first three."""
     cells = [str(epoch.index), calendar(epoch.ps), str(epoch.satellites)]
     if region is None:
         return cells
     inner = sum(kept.inner for kept in epoch.kept)
     latitude, longitude, height = geodetic(region.middle())
     cells += [str(inner), str(len(epoch.kept) - inner)]
-    cells += [
-        f"{upward(width):.1f}" for width in (*region.widths(), region.clock[1] - region.clock[0])
-    ]
-    cells += [
-        volume_text(region.volume),
-        f"{math.degrees(latitude):.7f}",
-        f"{math.degrees(longitude):.7f}",
-    ]
+    cells += [f"{upward(width):.1f}" for width in (*region.widths(), region.clock[1] - region.clock[0])]
+    cells += [volume_text(region.volume), f"{math.degrees(latitude):.7f}", f"{math.degrees(longitude):.7f}"]
     return cells + [f"{height:.1f}"]
 
 
@@ -147,9 +139,7 @@ def place_text(judge: Judge, found: Numbers | None) -> str:
     if not judge.has_direction:
         return text
     pair = (found.along, found.across)
-    return text + "".join(
-        " " * 9 if length is None else f" {upward(length):8.1f}" for length in pair
-    )
+    return text + "".join(" " * 9 if length is None else f" {upward(length):8.1f}" for length in pair)
 
 
 def text_line(epoch: Epoch, region: Region | None, mark: str, place: str = "") -> str:
@@ -208,9 +198,7 @@ class Totals:
         self.marks: Counter[str] = Counter()
         self.first = self.last = 0  # the numbers of epochs
         self.lost: int | None = None
-        self.skips: Counter[
-            SkipReason
-        ] = Counter()  # the reasons why satellites of few epochs aren't used
+        self.skips: Counter[SkipReason] = Counter()  # the reasons why satellites of few epochs aren't used
         self.galileo: Counter[SkipReason] = Counter()  # those of Galileo of paved epochs
         self.galileo_used = 0  # how many rows of Galileo satellites there are
         self.hull: Box | None = None  # of all kept boxes, in um
@@ -247,9 +235,7 @@ class Totals:
         """How many epochs of an observation file the log has."""
         numbers = f", numbers {self.first} to {self.last}" if self.epochs else ""
         try:
-            return (
-                f"the log covers {self.epochs} of the {file_epochs(path)} epochs of {path}{numbers}"
-            )
+            return f"the log covers {self.epochs} of the {file_epochs(path)} epochs of {path}{numbers}"
         except ValueError:
             raise Error(f"{path}: this isn't a file of observations") from None
 
@@ -274,8 +260,7 @@ class Totals:
             yield f"every paved epoch is empty; {self.why_empty()}"
         elif empty:
             yield (
-                f"{empty} of {paved} paved epochs are empty: more satellites than allowed broke"
-                f" their bounds, {LEFT}"
+                f"{empty} of {paved} paved epochs are empty: more satellites than allowed broke their bounds, {LEFT}"
             )
         if reaches and reaches == self.regions:
             yield f"every region reaches the search box; {self.why_reaches()}"
@@ -288,9 +273,7 @@ class Totals:
             yield f"no Galileo satellite is used; {self.why_no_galileo()}"
 
     def box(self) -> tuple[list[int], list[int]]:
-        """The least search box that holds all kept boxes: its centre and its half sides in whole
-        mm.
-        """
+        """The least search box that holds all kept boxes: its centre and its half sides in whole mm."""
         if self.hull is None:
             raise Error("no epoch has a region")
         low = [end // UM_PER_MM for end in self.hull[:3]]
@@ -345,10 +328,7 @@ class Totals:
 
 
 def summarize(
-    path: PathLike,
-    write_line: WriteLine,
-    outlines: TextIO | None = None,
-    judge: Judge | None = None,
+    path: PathLike, write_line: WriteLine, outlines: TextIO | None = None, judge: Judge | None = None
 ) -> Totals:
     """Goes through a log once, and hands each epoch's line to `write_line`.
 
@@ -371,42 +351,21 @@ def place_arguments(parser: argparse.ArgumentParser) -> None:
     """The words on known places."""
     way = parser.add_mutually_exclusive_group()
     way.add_argument(
-        "--azimuth",
-        type=measure,
-        metavar="A",
-        help="look along and across A degrees from north, clockwise",
+        "--azimuth", type=measure, metavar="A", help="look along and across A degrees from north, clockwise"
     )
-    way.add_argument(
-        "--along", metavar="FILE", help="look along and across a track, a list of places"
-    )
-    parser.add_argument(
-        "--limit",
-        type=alert_limit,
-        nargs=2,
-        metavar=("H", "V"),
-        help="alert limits along the ground and up, m",
-    )
+    way.add_argument("--along", metavar="FILE", help="look along and across a track, a list of places")
+    limit_argument(parser)
 
 
 def arguments(parser: argparse.ArgumentParser) -> None:
     """The words of the command line."""
     parser.add_argument("log", metavar="LOG")
     form = parser.add_mutually_exclusive_group()
-    form.add_argument(
-        "--csv",
-        action="store_true",
-        help="print comma-separated values, and the warnings on stderr",
-    )
-    form.add_argument(
-        "--box", action="store_true", help="print the least search box round all kept boxes"
-    )
+    form.add_argument("--csv", action="store_true", help="print comma-separated values, and the warnings on stderr")
+    form.add_argument("--box", action="store_true", help="print the least search box round all kept boxes")
     parser.add_argument("--kml", metavar="FILE", help="write the outline of each region to FILE")
-    parser.add_argument(
-        "--strict", action="store_true", help=f"end with {STRICT} where there is a warning"
-    )
-    parser.add_argument(
-        "--obs", metavar="OBS", help="say how many epochs of this observation file the log covers"
-    )
+    parser.add_argument("--strict", action="store_true", help=f"end with {STRICT} where there is a warning")
+    parser.add_argument("--obs", metavar="OBS", help="say how many epochs of this observation file the log covers")
     parser.add_argument("--places", metavar="FILE", help="a list of known places")
     place_arguments(parser)
 
@@ -420,7 +379,7 @@ def judge_of(args: argparse.Namespace) -> Judge | None:
     azimuth = None if args.azimuth is None else math.radians(args.azimuth)
     track = None if args.along is None else read_places(args.along)
     limits = None if args.limit is None else Limits(*args.limit)
-    return Judge(Meetings(args.places, read_places(args.places)), azimuth, track, limits)
+    return Judge(Meetings.of(args.places), azimuth, track, limits)
 
 
 def print_text(args: argparse.Namespace, outlines: TextIO | None, judge: Judge | None) -> Totals:
@@ -445,9 +404,7 @@ def print_csv(args: argparse.Namespace, outlines: TextIO | None, judge: Judge | 
     writer.writerow(COLUMNS + (PLACE_COLUMNS if judge else []))
 
     def write(epoch: Epoch, region: Region | None, mark: str, found: Numbers | None) -> None:
-        writer.writerow(
-            csv_line(epoch, region, mark) + (place_values(judge, region, found) if judge else [])
-        )
+        writer.writerow(csv_line(epoch, region, mark) + (place_values(judge, region, found) if judge else []))
 
     return summarize(args.log, write, outlines, judge)
 

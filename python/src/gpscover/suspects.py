@@ -1,7 +1,7 @@
 """Tells which satellites surely broke their declared bounds.
 
-usage: gpslog suspect log LOG
-       gpslog suspect open OBS NAV SETTINGS [--program GPSCOVER] [--folder FOLDER]
+usage: gpslog suspect log LOG [--station]
+       gpslog suspect open OBS NAV SETTINGS [--station STATION] [--program GPSCOVER] [--folder FOLDER]
 
 `log` reads a log that was solved with outliers = 1 or more. At each point and clock offset that
 fits, all but at most q satellites keep their bounds. A satellite is named where in no kept box
@@ -15,6 +15,9 @@ satellite is among those whose opening leaves a region, if one alone is faulty. 
 have a table [galileo], its offset is opened to 1 km in a run of its own, which opens all satellites
 of Galileo by as much. Only epochs that are empty with the bounds as they are get a line. The files
 of these runs stand in FOLDER, or in a folder that is removed at the end.
+
+With a station, which `log` is told by --station and `open` by its file, the bounds are those of
+differences: a fault is the receiver's or the station's, and which of the two isn't told.
 
 A satellite that isn't named can be faulty too: that an epoch isn't empty says nothing of its
 bounds.
@@ -38,6 +41,7 @@ from gpscover.errors import Error
 from gpscover.log import Box, Epoch, Interval, PathLike, Row, calendar, epochs
 
 OPENED_MM = 1_000_000
+AT_EITHER = " at the receiver or the station"
 
 
 def clock_span(row: Row, box: Box) -> Interval:
@@ -46,10 +50,7 @@ def clock_span(row: Row, box: Box) -> Interval:
     for (low, high), box_low, box_high in zip(row.place, box.low, box.high):
         near += max(0, low - box_high, box_low - high) ** 2
         far += max(high - box_low, box_high - low) ** 2
-    return Interval(
-        row.range.low - math.isqrt(far) - row.error.high,
-        row.range.high - math.isqrt(near) - row.error.low,
-    )
+    return Interval(row.range.low - math.isqrt(far) - row.error.high, row.range.high - math.isqrt(near) - row.error.low)
 
 
 def possible_in(rows: list[Row], box: Box, outliers: int) -> set[int]:
@@ -78,22 +79,15 @@ def surely_broken(epoch: Epoch) -> list[str]:
     return [epoch.rows[k].satellite for k in sorted(left)]
 
 
-def log_line(epoch: Epoch) -> str:
-    """What a log says of an epoch's satellites."""
+def log_line(epoch: Epoch, place: str = "") -> str:
+    """What a log says of an epoch's satellites, and where, if that isn't at the receiver alone."""
     head = f"epoch {epoch.index} {calendar(epoch.ps)}"
     if epoch.few:
         return f"{head} few"
     if not epoch.kept:
-        return (
-            f"{head} empty: more than {epoch.outliers} satellites broke their bounds, or the"
-            " receiver was outside"
-        )
+        return f"{head} empty: more than {epoch.outliers} satellites broke their bounds, or the" " receiver was outside"
     broken = surely_broken(epoch)
-    return (
-        f"{head} broke their bounds: {' '.join(broken)}"
-        if broken
-        else f"{head} none is shown to have"
-    )
+    return f"{head} broke their bounds{place}: {' '.join(broken)}" if broken else f"{head} none is shown to have"
 
 
 def with_no_outliers(settings: str) -> str:
@@ -125,15 +119,18 @@ def with_open_offset(settings: str) -> str | None:
 class Runs:
     """Runs the program on the same files with other settings."""
 
-    def __init__(self, program: PathLike, obs: PathLike, nav: PathLike, folder: PathLike) -> None:
+    def __init__(
+        self, program: PathLike, obs: PathLike, nav: PathLike, folder: PathLike, station: PathLike | None = None
+    ) -> None:
         self.program, self.obs, self.nav = str(program), str(obs), str(nav)
         self.folder = Path(folder)
+        self.options = [] if station is None else ["--station", str(station)]
 
     def solve(self, name: str, settings: str) -> list[Epoch]:
         """The epochs that the program finds with these settings."""
         toml, log = self.folder / f"{name}.toml", self.folder / f"{name}.log"
         toml.write_text(settings, encoding="utf-8")
-        words = [self.program, "solve", self.obs, self.nav, str(toml), str(log)]
+        words = [self.program, "solve", self.obs, self.nav, str(toml), str(log), *self.options]
         ran = subprocess.run(words, stdout=subprocess.DEVNULL, stderr=subprocess.PIPE, text=True)
         if ran.returncode:
             raise Error(f"{' '.join(words)} ended with {ran.returncode}: {ran.stderr.strip()}")
@@ -147,9 +144,7 @@ def opened_lines(runs: Runs, settings: str) -> Iterator[str]:
     given = runs.solve("given", closed)
     empty = {epoch.index: epoch for epoch in given if not epoch.few and not epoch.kept}
     satellites = sorted({row.satellite for epoch in empty.values() for row in epoch.rows})
-    opened: dict[str, str | None] = {
-        satellite: with_opened(closed, satellite) for satellite in satellites
-    }
+    opened: dict[str, str | None] = {satellite: with_opened(closed, satellite) for satellite in satellites}
     if any(satellite[0] == "E" for satellite in satellites):
         opened["offset"] = with_open_offset(closed)
     helps: dict[int, list[str]] = {index: [] for index in empty}
@@ -158,19 +153,17 @@ def opened_lines(runs: Runs, settings: str) -> Iterator[str]:
             if epoch.index in helps and epoch.kept:
                 helps[epoch.index].append(name)
     for index, epoch in empty.items():
-        names = (
-            " ".join(helps[index])
-            or "none: more than one satellite broke its bounds, or the receiver was outside"
-        )
+        names = " ".join(helps[index]) or "none: more than one satellite broke its bounds, or the receiver was outside"
         yield f"epoch {index} {calendar(epoch.ps)} empty; a region is left when opening {names}"
-    yield f"epochs {len(given)}, of which {len(empty)} are empty at outliers = 0"
+    end = f"; a fault is one{AT_EITHER}" if runs.options and empty else ""
+    yield f"epochs {len(given)}, of which {len(empty)} are empty at outliers = 0{end}"
 
 
 def run_open(args: argparse.Namespace) -> None:
     """Opens each satellite in turn."""
     settings = read_text(args.settings)
     with tempfile.TemporaryDirectory() as room:
-        runs = Runs(args.program, args.obs, args.nav, args.folder or room)
+        runs = Runs(args.program, args.obs, args.nav, args.folder or room, args.station)
         for line in opened_lines(runs, settings):
             print(line)
 
@@ -179,10 +172,8 @@ def run_log(args: argparse.Namespace) -> None:
     """Goes through a log."""
     for epoch in epochs(args.log):
         if epoch.outliers == 0:
-            raise Error(
-                f"{args.log} was solved with outliers = 0, where no satellite may break its bounds"
-            )
-        print(log_line(epoch))
+            raise Error(f"{args.log} was solved with outliers = 0, where no satellite may break its bounds")
+        print(log_line(epoch, AT_EITHER if args.station else ""))
 
 
 def arguments(parser: argparse.ArgumentParser) -> None:
@@ -190,10 +181,12 @@ def arguments(parser: argparse.ArgumentParser) -> None:
     ways = parser.add_subparsers(required=True)
     log = ways.add_parser("log", help="from a log that was solved with outliers = 1 or more")
     log.add_argument("log", metavar="LOG")
+    log.add_argument("--station", action="store_true", help="it was solved with a station")
     log.set_defaults(work=run_log)
     opened = ways.add_parser("open", help="by opening each satellite in turn at outliers = 0")
     for name in ("obs", "nav", "settings"):
         opened.add_argument(name, metavar=name.upper())
+    opened.add_argument("--station", help="the observation file of a station")
     opened.add_argument("--program", default="./gpscover", help="the program (./gpscover)")
     opened.add_argument("--folder", help="where the runs' files are kept")
     opened.set_defaults(work=run_open)

@@ -241,9 +241,7 @@ class Answers:
                 yield f"zone {thing.name} {counts} few {self.few}"
 
 
-def lines(
-    second: bool, things: list[Thing], log: Iterable[tuple[int, list[Box] | None]]
-) -> Iterator[str]:
+def lines(second: bool, things: list[Thing], log: Iterable[tuple[int, list[Box] | None]]) -> Iterator[str]:
     """The lines of a log's epochs (index, boxes), and behind them those of all.
 
     The boxes are None in an epoch of few satellites.

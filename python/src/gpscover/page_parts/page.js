@@ -1,5 +1,5 @@
 "use strict";
-// The page's script: shows what stands in the element `data`, with the figures that page_figures.py made.
+// The page's script: shows what stands in the element `data`, with the figures of figures.json.
 
 const data = JSON.parse(document.getElementById("data").textContent);
 const table = data.table;

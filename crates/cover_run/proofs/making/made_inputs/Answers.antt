@@ -1,3 +1,4 @@
+use Rattle.std.proofs.Common.{refl}
 use Rattle.input_files.proofs.PositionLemmas.{enough}
 use Rattle.made_input.specs.MadeCodes.{centre_x, centre_y, centre_z}
 use Rattle.made_input.specs.MadeRecords.{made_records}
@@ -50,6 +51,7 @@ returns-clause-made c =
       is_made = m;
       settings = rw e m.settings_accepted;
       nav = rw nav m.nav_accepted;
+      alone = refl;
       obs = rw obs for;
     }
 
@@ -60,4 +62,5 @@ returns-clause-enough c =
       centre = enough c.in_ok-settings.settings.centre c.in_ok-obs.obs.position
           (rw c.wants_position-position.ensures at o.known);
       usual = o.usual;
+      ages = tt;
     }

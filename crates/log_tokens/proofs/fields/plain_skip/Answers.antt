@@ -4,13 +4,13 @@ use Rattle.std.proofs.lemmas.Fmt.{decimal_injective}
 use Rattle.log_tokens.specs.Fields.{IsPlainTest, optional_words}
 use Rattle.log_tokens.proofs.fields.plain_skip.Goals as goal
 
-plain_bound : (n : ℕ) → IsPlainTest n → n ≤ 7
+plain_bound : (n : ℕ) → IsPlainTest n → n ≤ 9
 plain_bound n (inl few) = omega (arith, few.1)
-plain_bound n (inr seven) = omega (arith, seven)
+plain_bound n (inr more) = more.1
 
 other_than_six : (n : ℕ) → IsPlainTest n → n ≡ 6 → ⊥
 other_than_six n (inl few) six = omega (arith, few.1, six)
-other_than_six n (inr seven) six = omega (arith, seven, six)
+other_than_six n (inr more) six = omega (arith, more.0, six)
 
 -- no skip without a field begins with test 6
 none_of_six : (line rest : List (List ℕ)) (six number field : ℕ) → six ≡ 6

@@ -71,7 +71,7 @@ returns-in-Some-renewal_fault c =
     let mid = stage_of c.take_steps.new.live c.take_steps.new.test in
     let here = rw c.in_default.is at c.in_ok-fault.ensures.stage in
     let passes = rw c.in_default.is at c.in_ok-fault.ensures.found in
-    let (k, breaks, at) = rw c.in-Some-renewal_fault.is at c.renewal_fault.ensures in
+    let (k, breaks, at) = rw c.in-Some-renewal_fault.is at c.renewal_fault.ensures.found in
     fails_in_renewal _ _ _ _ _ _ _ _ steps r more w (r.at - c.loop-renewal.taken) refl mid here passes k c.in-Some-renewal_fault.fault breaks at
 
 pub overflow_add-next-in-loop-renewal : goal.overflow_add-next-in-loop-renewal
@@ -118,7 +118,7 @@ pub new-test-requires-in-loop-renewal : goal.new-test-requires-in-loop-renewal
 new-test-requires-in-loop-renewal c =
     let given = c.args.given.now in
     let r = c.renewal-item.result in
-    let holds = rw c.in_default-renewal_fault.is at c.renewal_fault.ensures in
+    let holds = rw c.in_default-renewal_fault.is at c.renewal_fault.ensures.found in
     omega (
       arith,
       c.requires.rows,
@@ -137,12 +137,12 @@ loop-renewal-preserved c =
     let mid = stage_of c.take_steps.new.live c.take_steps.new.test in
     let here = rw c.in_default.is at c.in_ok-fault.ensures.stage in
     let passes = rw c.in_default.is at c.in_ok-fault.ensures.found in
-    let holds = rw c.in_default-renewal_fault.is at c.renewal_fault.ensures in
+    let holds = rw c.in_default-renewal_fault.is at c.renewal_fault.ensures.found in
     let left = rw c.in_default.is at c.in_ok-fault.ensures.left in
     let few = few_before c.loop-renewal.taken steps r more w.rise in
     record {
-      way = way_more _ _ _ _ _ _ _ _ steps r more w (r.at - c.loop-renewal.taken) refl mid here passes _ (stage_of c.take_steps.new.live c.new-test-in-loop-renewal.result) (steps_left c.take_steps.new.ahead) holds
-          (omega (arith, c.len.ensures, r.rows.ok)) (rw (c.new-test-in-loop-renewal.ensures, c.deref.ensures.value) refl) left;
+      way = way_more _ _ _ _ _ _ _ _ steps r more w (r.at - c.loop-renewal.taken) refl mid here passes _ (stage_of c.renewal_fault.new.live c.new-test-in-loop-renewal.result) (steps_left c.take_steps.new.ahead) holds
+          (omega (arith, c.len.ensures, r.rows.ok)) (rw (c.renewal_fault.ensures.same, c.new-test-in-loop-renewal.ensures, c.deref.ensures.value) refl) left;
       all = omega (arith, c.loop-renewal.invariant.all, few.0, few.1, ap length left, length-drop (r.at - c.loop-renewal.taken) steps);
     }
 

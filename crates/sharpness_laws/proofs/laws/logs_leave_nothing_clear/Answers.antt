@@ -8,5 +8,5 @@ returns-clause-whole g c = λ source renews rules root epochs blocks box distinc
     log_clear (g.S.RowSource.meaning source) (g.met.S.RowSource.sound source) renews rules (grid_box root) box (grid_part root) epochs blocks distinct solved
 
 pub returns-clause-begun : goal.returns-clause-begun
-returns-clause-begun g c = λ source renews rules root epochs fault limit bytes said box distinct begun.
-    begun_clear (g.S.RowSource.meaning source) (g.met.S.RowSource.sound source) renews rules root box epochs distinct limit bytes said fault begun
+returns-clause-begun g c = λ source renews rules left fault limit bytes said first distinct begun.
+    begun_clear (g.S.RowSource.meaning source) (g.met.S.RowSource.sound source) renews rules left first distinct limit bytes said fault begun

@@ -1,4 +1,4 @@
-use Rattle.std.proofs.Common.{◌≡◌, true, sym, ◌∙◌, subst}
+use Rattle.std.proofs.Common.{◌≡◌, true, false, sym, ◌∙◌, subst}
 use Rattle.command_words.specs.Seen.{epochs_asked}
 use Rattle.error_bounds.specs.Reading.{IsKnown}
 use Rattle.rinex_obs.specs.Header.{are_both}
@@ -25,7 +25,7 @@ returns-in-Ok-clause-usual c =
     let e = c.in-Ok.ensures in
     record {
       usual = record { rising = e.rising; distinct = e.distinct; named = each_named (are_both t.sought.now) (observations_of c.in-Ok.obs).epochs e.named };
-      known = subst (λ (o : Observations). t.position ≡ true → IsKnown o.position) (sym e.records.2) (known t.sought.now t.position c.deref.result.now e.records.0 e.records.1);
+      known = subst (λ (o : Observations). t.position ≡ true → IsKnown o.position) (sym e.records.2) (known false t.sought.now t.position c.deref.result.now e.records.0 e.records.1);
     }
 
 pub returns-clause-gives : goal.returns-clause-gives

@@ -1,32 +1,26 @@
-use Rattle.std.proofs.Common.{sym, ap, subst, ◌∙◌, None, below_more}
-use Rattle.std.proofs.lemmas.Bool.{false≢true}
-use Rattle.std.proofs.lemmas.List.{get_or-map}
+use Rattle.std.proofs.Common.{arith, subst, ◌∙◌, ◌/◌, inl, inr}
+use Rattle.std.proofs.lemmas.Bool.{cases_eq}
 use Rattle.grid_model.specs.Boxes.{GridBox, grid_box, IsInside}
-use Rattle.sat_model.proofs.VerdictLemmas.{same_box}
-use Rattle.subpaving.specs.LiveValues.{box_option}
-use Rattle.subpaving.proofs.LiveLemmas.{all_held}
-use Rattle.subpaving.proofs.live.Live.all_inside.Goals.{in-Some+else-not-lies_in, in-None}
+use Rattle.subpaving.proofs.GroupLemmas.{group_within, live_here, live_there, live_within}
 use Rattle.subpaving.proofs.live.Live.all_inside.Goals as goal
 
-pub loop-found-preserved : goal.loop-found-preserved
-loop-found-preserved c =
-    let at = get_or-map box_option c.deref-found-items.result.now c.loop-found.found-index c.found-item.result None c.loop-found-test.true ∙ ap box_option (sym c.found-item.is) in
-    below_more _ _ c.loop-found.invariant (elim c.match-found.branch [
-      | in-Some+else-not-lies_in w ↦ λ live is. subst (λ (b : GridBox). IsInside b (grid_box c.args.whole.now))
-          (same_box _ (grid_box w.in-Some.part) live (at ∙ ap box_option w.in-Some.is) is) (w.lies_in.ensures.0 w.if-not-lies_in.false)
-      | in-None w ↦ λ live is. absurd (let gone = at ∙ ap box_option w.in-None.is in cc)
-    ])
+pub returns-then-not-is_group_inside-clause-no : goal.returns-then-not-is_group_inside-clause-no
+returns-then-not-is_group_inside-clause-no c = λ e.
+    let (id, part, at, beyond) = c.is_group_inside.ensures.no c.if-not-is_group_inside.true in
+    (id, grid_box part, live_here c.args.self.now.boxes.items id part (rw c.groups.invariant.0 at at), beyond)
+
+pub groups-preserved : goal.groups-preserved
+groups-preserved c = (
+  c.is_group_inside.ensures.same ∙ c.groups.invariant.0,
+  λ id less. elim (cases_eq (id / 512) c.groups.group) [
+    | inl same ↦ rw c.groups.invariant.0 at (c.is_group_inside.ensures.yes c.if-not-is_group_inside.false id same)
+    | inr other ↦ c.groups.invariant.1 id (omega (arith, less, other))
+  ],
+)
 
 pub returns-clause-yes : goal.returns-clause-yes
-returns-clause-yes c = λ t. all_held c.args.self.now.boxes.items (λ live. IsInside live (grid_box c.args.whole.now)) c.loop-found.found-index
-    (rw c.deref-found-items.ensures.value at c.loop-found.invariant) (rw c.deref-found-items.ensures.value at c.loop-found-test.false)
-
-pub returns-then-not-lies_in-clause-no : goal.returns-then-not-lies_in-clause-no
-returns-then-not-lies_in-clause-no c = λ e.
-    let here = get_or-map box_option c.deref-found-items.result.now c.loop-found.found-index c.found-item.result None c.loop-found-test.true
-    ∙ ap box_option (sym c.found-item.is ∙ c.in-Some.is) in (
-      c.loop-found.found-index,
-      grid_box c.in-Some.part,
-      (rw c.deref-found-items.ensures.value at here),
-      λ h. false≢true (sym c.if-not-lies_in.true ∙ c.lies_in.ensures.1 h),
-    )
+returns-clause-yes c = λ t id live is.
+    let boxes = c.args.self.now.boxes.items in
+    let (part, at, same) = live_there boxes id live is in
+    let near = group_within id _ c.groups.group (live_within boxes id part at) (omega (arith, c.groups-test.false, c.div_ceil-groups.ensures, c.len.ensures, c.args.self.now.boxes.ok)) in
+    subst (λ (b : GridBox). IsInside b (grid_box c.args.whole.now)) same (c.groups.invariant.1 id near part at)

@@ -1,7 +1,7 @@
-use Rattle.std.proofs.Common.{◌≡◌, ℕ, ◌<◌, get_or, map, None, Some}
-use Rattle.grid_model.specs.Boxes.{GridBox, grid_box, IsInside}
-use Rattle.subpaving.specs.LiveValues.{box_option}
+use Rattle.std.proofs.Common.{ℕ, ◌≡◌, ◌/◌, ◌<◌}
+use Rattle.subpaving.specs.Groups.{IsIn}
 use Rattle.subpaving.proofs.live.Live.all_inside.Given as goal
 
-abbrev pub invariant-loop-found : goal.invariant-loop-found
-invariant-loop-found l = (id : ℕ) → id < l.found-index → (live : GridBox) → get_or (map box_option l.found-items) id None ≡ Some live → IsInside live (grid_box l.whole)
+abbrev pub invariant-groups : goal.invariant-groups
+invariant-groups l = (l.self.boxes.items ≡ l.fn.self.boxes.items)
+    × ((id : ℕ) → id / 512 < l.group → IsIn l.whole l.fn.self.boxes.items id)

@@ -1,0 +1,6 @@
+use Rattle.std.proofs.Common.{refl}
+use Rattle.error_bounds.specs.Forms.{is_near_ground}
+use Rattle.error_bounds.proofs.places.GroundPlaceForm.read.Goals as goal
+
+pub returns-in-Err-clause-value : goal.returns-in-Err-clause-value
+returns-in-Err-clause-value c = rw (← rw c.in_default.is at c.as_str.ensures, c.in-Err.ensures is_near_ground) refl

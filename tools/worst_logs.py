@@ -1,0 +1,100 @@
+#!/usr/bin/env python3
+"""Writes the logs that take `judge` the longest for their size, as far as they are known, and times them.
+
+usage: python3 -m tools.worst_logs PROGRAM [--splits N] [--mib N] [--folder FOLDER]
+
+A renewal is tested against all live boxes, and a forged log may have many of both. In each of the logs 200,000 splits
+come first (--splits). Then, until the log has its size (64 MiB; 512 is the most that is read):
+
+  renewals  nothing but renewals, whose rows nobody uses
+  cuts      renewals, each behind a cut of one box in each group of 512, so that each group has to be looked through
+
+Prints a table: lines, seconds of processor time, and those for 512 MiB. The status is 1 where `judge` doesn't say yes.
+"""
+import argparse
+import os
+import subprocess
+import sys
+import tempfile
+from pathlib import Path
+
+GROUP = 512
+MIB = 1 << 20
+SIDE = 10**12
+# Four rows two of which meet at no clock offset: every box is shown empty.
+ROWS = "".join(f"sat G0{n} 0 0 0 0 0 0 {n // 4 * 4 * SIDE} {n // 4 * 4 * SIDE} 0 0\n" for n in range(1, 5))
+
+
+def renewal(low):
+    """The lines of a renewal over what lies from a number on along x."""
+    return f"renew {low} 0 0 {SIDE} {SIDE} {SIDE}\n{ROWS}"
+
+
+def start(splits):
+    """An epoch whose root is split along y, each box in its turn."""
+    yield "gpscover 2\nrules 0 200000 1000\n"
+    yield f"epoch 1 0 4\n{ROWS}root 0 0 0 {SIDE} {SIDE} {SIDE}\n"
+    yield from (f"split {number} 1\n" for number in range(splits))
+
+
+def renewals(splits, size):
+    """Renewals over the root, as many as there is room for."""
+    one = renewal(0)
+    yield from (one for _ in range(size // len(one)))
+
+
+def cuts(splits, size):
+    """Renewals over less and less, and in front of each a cut of one box in each group: the others were cut before."""
+    live = range(splits, 2 * splits + 1)
+    at_face = [number for number in live if number % GROUP == 0 or number == splits]
+    behind = set(live).difference(at_face)
+    yield from (f"cut {number} 0 {SIDE // 2}\n" for number in behind)
+    low = 0
+    while size > 0:
+        low += 1
+        part = "".join(f"cut {number} 0 {low}\n" for number in at_face) + renewal(low)
+        size -= len(part)
+        yield part
+
+
+def end(splits):
+    """All boxes are closed."""
+    yield from (f"out {number}\n" for number in range(splits, 2 * splits + 1))
+    yield f"done {splits}\n"
+
+
+def measure(program, path):
+    """How much processor time `judge` takes, and whether it says yes."""
+    before = os.times()
+    said = subprocess.run([program, "judge", path], capture_output=True, text=True, check=False).stdout
+    after = os.times()
+    seconds = after.children_user + after.children_system - before.children_user - before.children_system
+    return seconds, said.startswith("yes ")
+
+
+def main():
+    parser = argparse.ArgumentParser(description=__doc__, formatter_class=argparse.RawDescriptionHelpFormatter)
+    parser.add_argument("program")
+    parser.add_argument("--splits", type=int, default=200_000)
+    parser.add_argument("--mib", type=int, default=64)
+    parser.add_argument("--folder", type=Path)
+    words = parser.parse_args()
+    well = True
+    with tempfile.TemporaryDirectory() as temporary:
+        folder = words.folder or Path(temporary)
+        print("| log | lines | judge | for 512 MiB |\n|---|---|---|---|")
+        for name, body in (("renewals", renewals), ("cuts", cuts)):
+            path = folder / f"{name}.log"
+            with path.open("w", encoding="ascii") as log:
+                for part in (start(words.splits), body(words.splits, words.mib * MIB), end(words.splits)):
+                    log.writelines(part)
+            seconds, is_yes = measure(words.program, path)
+            with path.open("rb") as log:
+                lines = sum(1 for _ in log)
+            print(f"| {name} | {lines:,} | {seconds:.1f} s | {seconds * 512 * MIB / path.stat().st_size:.0f} s |")
+            well = well and is_yes
+    return 0 if well else 1
+
+
+if __name__ == "__main__":
+    sys.exit(main())
