@@ -4,10 +4,11 @@ ghost use Rattle.std.specs.Prelude.{◌≡◌, ◌≤◌, length, IfOk};
 
 use crate::rows_overhead::around;
 use crate::usable_satellites::{FRESH, SAT, SETTINGS, TAG, nav_of};
-use error_bounds::read_settings;
+use error_bounds::{Settings, read_settings};
 use exact_decimal::Decimal;
 use gnss_model::{Sat, Skip};
 use grid_model::Pos;
+use rinex_nav::Nav;
 use rinex_obs::{ObsEpoch, SatObs};
 use sat_rows::{RowSource, SatLine};
 use station_epochs::KnownStation;
@@ -62,6 +63,19 @@ fn on_the_equator(epochs: &[ObsEpoch]) -> KnownStation<'_>
     }
 }
 
+/// The rows of these files with such a station.
+fn beside<'a>(nav: &'a Nav, settings: &'a Settings, epochs: &'a [ObsEpoch]) -> FileRows<'a>
+    requires few { length epochs.now ≤ 1 }
+    requires short { settings.now.max_age ≤ 14000 }
+{
+    let station = Some(on_the_equator(epochs));
+    FileRows {
+        nav,
+        settings,
+        station,
+    }
+}
+
 /// The line of G01, which was observed with a code in mm, beside a station that observed a
 /// satellite at most once, so many ps later.
 fn line_beside(
@@ -88,11 +102,7 @@ fn line_beside(
     if settings.max_age > 14_000 || epochs.len() > 1 {
         return Err(Fail::from("old"));
     }
-    let source = FileRows {
-        nav: &nav,
-        settings: &settings,
-        station: Some(on_the_equator(&epochs)),
-    };
+    let source = beside(&nav, &settings, &epochs);
     let epoch = ObsEpoch {
         index: 1,
         tag: TAG,
