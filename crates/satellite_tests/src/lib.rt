@@ -1,6 +1,6 @@
 //! Tests alone: eccentric anomalies, clocks, places, turned places and prepared pseudoranges against
 //! vectors of other sources, clocks and places of recorded satellites, which satellites are usable,
-//! their rows, and the files of a made receiver.
+//! their rows, also beside a station, and the files of a made receiver.
 #![tactic(auto)]
 
 #[cfg(test)]
@@ -31,6 +31,8 @@ mod recorded_places;
 mod recorded_vectors;
 #[cfg(test)]
 mod rows_overhead;
+#[cfg(test)]
+mod stations;
 #[cfg(test)]
 mod turn_vectors;
 #[cfg(test)]

@@ -80,7 +80,7 @@ fn circle() -> Elements
 }
 
 /// A cube of 2 m round a point of the equator.
-fn around() -> Box3
+pub(crate) fn around() -> Box3
     ensures { IsSearchBox (grid_box result) }
 {
     Box3 {

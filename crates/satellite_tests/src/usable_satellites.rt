@@ -11,15 +11,15 @@ use std::test::Fail;
 use usable_sats::{Judgement, Measured, judge_satellite};
 
 /// 2024-01-07 02:00:01, 7,201 s into a week, in ps.
-const TAG: i128 = 1_388_628_001_000_000_000_000;
+pub(crate) const TAG: i128 = 1_388_628_001_000_000_000_000;
 
-const SAT: Sat = Sat {
+pub(crate) const SAT: Sat = Sat {
     system: b'G',
     number: 1,
 };
 
 /// Fields of a navigation record; the others are zero, but for the root of the axis.
-struct Ephemeris {
+pub(crate) struct Ephemeris {
     af0: &'static str,
     toe: &'static str,
     e: &'static str,
@@ -27,7 +27,7 @@ struct Ephemeris {
 }
 
 /// A record of age 7,200 s.
-const FRESH: Ephemeris = Ephemeris {
+pub(crate) const FRESH: Ephemeris = Ephemeris {
     af0: "0",
     toe: "1",
     e: "0",
@@ -78,7 +78,7 @@ fn put_record(text: &mut Vec<u8>, record: &Ephemeris) -> Result<(), AllocError> 
 }
 
 /// A navigation file with these records.
-fn nav_of(alloc: Global, records: &[Ephemeris]) -> Result<Nav, Fail> {
+pub(crate) fn nav_of(alloc: Global, records: &[Ephemeris]) -> Result<Nav, Fail> {
     let mut text = Vec::new(alloc);
     put(&mut text, 5, "3.05")?;
     put(&mut text, 11, "N")?;
@@ -96,7 +96,7 @@ fn nav_of(alloc: Global, records: &[Ephemeris]) -> Result<Nav, Fail> {
 }
 
 /// Single codes, and records of an age up to 7,200 s.
-const SETTINGS: &str = "[search]
+pub(crate) const SETTINGS: &str = "[search]
 centre = \"header\"
 half = 1000
 outliers = 1
