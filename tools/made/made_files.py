@@ -279,10 +279,11 @@ def arguments():
     return parser.parse_args()
 
 
-def main():
+def main(do=solve_and_check):
+    """Does this with a program, in a folder, and prints what comes."""
     args = arguments()
     with tempfile.TemporaryDirectory() as room:
-        print(solve_and_check(args.program, Path(args.folder or room), args.seed, args.epochs))
+        print(do(args.program, Path(args.folder or room), args.seed, args.epochs))
 
 
 if __name__ == "__main__":

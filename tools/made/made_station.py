@@ -10,13 +10,10 @@ that holds -1 ms, the receiver's clock offset less the station's.
 
 Exit status: 0; 1 where a run fails or the place isn't held; 2 for a wrong command line.
 """
-import tempfile
-from pathlib import Path
-
 from gpscover.command import run_tool
 from gpscover.errors import Error
 from gpscover.log import UM_PER_M, epochs
-from tools.made.made_files import LABELS, NOISE_MM, Made, arguments, draws, epoch_lines, run, solve
+from tools.made.made_files import LABELS, NOISE_MM, Made, draws, epoch_lines, main, run, solve
 from tools.made.orbits import LIGHT
 
 ASIDE = (1500, -2000, 1000)  # from the receiver to the station, m
@@ -77,11 +74,5 @@ def solve_and_check(program, folder, seed, count):
     return f"{verdict}the place is held in each epoch"
 
 
-def main():
-    args = arguments()
-    with tempfile.TemporaryDirectory() as room:
-        print(solve_and_check(args.program, Path(args.folder or room), args.seed, args.epochs))
-
-
 if __name__ == "__main__":
-    run_tool(main)
+    run_tool(lambda: main(solve_and_check))
