@@ -1,6 +1,5 @@
 //! The step that splits or closes a box.
 
-ghost use Rattle.std.specs.Prelude.{◌≡◌};
 ghost use Rattle.grid_model.specs.Boxes.{grid_box};
 ghost use Rattle.sat_model.specs.BoxTests.{BoxTest, IsHull};
 ghost use Rattle.sat_model.specs.Waiting.{Closes, IsUndecided};

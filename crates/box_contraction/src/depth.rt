@@ -1,6 +1,6 @@
 //! How deep a box is cut.
 
-ghost use Rattle.std.specs.Prelude.{◌≡◌, ◌↔◌, ◌≤ℤ◌, IsTrue};
+ghost use Rattle.std.specs.Prelude.{◌≡◌, ◌↔◌, IsTrue};
 ghost use Rattle.grid_model.specs.Boxes.{grid_box};
 ghost use Rattle.sat_model.specs.Fold.{is_low};
 ghost use Rattle.relaxed_meet.specs.TestValues.{test_value};

@@ -1,7 +1,7 @@
 //! Cutting a box to what a tree of contractors proposes.
 
-ghost use Rattle.std.specs.Prelude.{◌≡◌, ◌+◌, ◌<◌, ◌≤◌, Option, length, map};
-ghost use Rattle.grid_model.specs.Boxes.{GridBox, grid_box, span_side};
+ghost use Rattle.std.specs.Prelude.{◌≡◌, ◌+◌, ◌<◌, ◌≤◌, length, map};
+ghost use Rattle.grid_model.specs.Boxes.{grid_box, span_side};
 ghost use Rattle.sat_model.specs.Trees.{IsWellFormed};
 ghost use Rattle.range_contractor.specs.Views.{tree_value};
 ghost use Rattle.relaxed_meet.specs.TestValues.{test_value};

@@ -1,6 +1,6 @@
 //! Rounds of cuts over the faces of a box.
 
-ghost use Rattle.std.specs.Prelude.{◌≡◌, ◌+◌, ◌<◌, ◌≤◌, length, map};
+ghost use Rattle.std.specs.Prelude.{◌≡◌, ◌+◌, ◌≤◌, length, map};
 ghost use Rattle.grid_model.specs.Boxes.{grid_box};
 ghost use Rattle.relaxed_meet.specs.TestValues.{test_value};
 ghost use Rattle.box_contraction.specs.Adding.{AddsCuts, step_value};

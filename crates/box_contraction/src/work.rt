@@ -1,7 +1,7 @@
 //! All steps of one box.
 
 ghost use Rattle.std.specs.Prelude.{◌≡◌, ◌+◌, ◌≤◌, [], length, map, true, false, MatchOption};
-ghost use Rattle.grid_model.specs.Boxes.{grid_box, span_side};
+ghost use Rattle.grid_model.specs.Boxes.{grid_box};
 ghost use Rattle.sat_model.specs.BoxTests.{IsHull};
 ghost use Rattle.sat_model.specs.RowTrees.{row_tree};
 ghost use Rattle.range_contractor.specs.Views.{tree_value};

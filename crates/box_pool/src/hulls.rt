@@ -1,6 +1,6 @@
 //! The hull of boxes: the least box round them.
 
-ghost use Rattle.std.specs.Prelude.{◌≡◌, List, [], ◌∷◌, ◌++◌, Some};
+ghost use Rattle.std.specs.Prelude.{List, [], ◌∷◌, ◌++◌, Some};
 ghost use Rattle.box_pool.specs.Hulls.{IsHullOf};
 
 use crate::item::Item;

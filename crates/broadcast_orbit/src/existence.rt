@@ -1,6 +1,6 @@
 //! Every time near the ephemeris time has a place.
 
-ghost use Rattle.std.specs.Prelude.{ℤ, pos, ◌≤ℤ◌};
+ghost use Rattle.std.specs.Prelude.{ℤ};
 ghost use Rattle.gnss_model.specs.OrbitChain.{OrbitChain};
 ghost use Rattle.gnss_model.specs.declared.elements.Elements.{Elements};
 

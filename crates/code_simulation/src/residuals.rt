@@ -3,9 +3,9 @@
 ghost use Rattle.std.specs.Prelude.{ℕ, ◌≡◌, ◌+◌, ◌*◌, ◌^◌, ◌≤◌, ℤ, pos, ◌+ℤ◌, ◌-ℤ◌, ◌≤ℤ◌, ◌<ℤ◌};
 ghost use Rattle.std.specs.Prelude.{true};
 ghost use Rattle.broadcast_orbit.specs.OrbitSizes.{time_width, IsOrbitDistance};
-ghost use Rattle.fix_interval.specs.Places.{HoldsPlace, PlaceEnds, PlaceAmount};
-ghost use Rattle.earth_rotation.specs.RoundSizes.{turned_reach, range_amount};
-ghost use Rattle.earth_rotation.specs.TurnSizes.{near_reach, narrow_width, reach_after};
+ghost use Rattle.fix_interval.specs.Places.{HoldsPlace, PlaceEnds};
+ghost use Rattle.earth_rotation.specs.RoundSizes.{range_amount};
+ghost use Rattle.earth_rotation.specs.TurnSizes.{near_reach, narrow_width};
 ghost use Rattle.fix_interval.specs.Factors.{Holds, HasEnds};
 ghost use Rattle.sat_clock.specs.ClockSizes.{correction_size};
 ghost use Rattle.grid_model.specs.Boxes.{grid_box, box_holds};

@@ -1,6 +1,6 @@
 //! The command `guard OBS NAV SETTINGS ZONES LOG`.
 
-ghost use Rattle.std.specs.Prelude.{◌≡◌, ◌<◌, ◌^◌, IfOk, length};
+ghost use Rattle.std.specs.Prelude.{◌<◌, ◌^◌, IfOk, length};
 ghost use Rattle.std.specs.List.{AllByRecursion};
 ghost use Rattle.command_words.specs.Seen.{files_asked};
 ghost use Rattle.cover_run.specs.Checking.{AreReady};

@@ -1,6 +1,6 @@
 //! The command `make SEED EPOCHS`.
 
-ghost use Rattle.std.specs.Prelude.{◌≡◌, ◌≤◌, ◌⊎◌, [], Some, IfOk, IfErr, length};
+ghost use Rattle.std.specs.Prelude.{◌≡◌, ◌≤◌, [], Some, IfOk, IfErr, length};
 ghost use Rattle.cover_run.specs.Making.{AreMade, FillsMade, IsCutOff, IsFull, IsSolvedAs, Makes};
 ghost use Rattle.cover_run.specs.Making.{SolvesMade};
 ghost use Rattle.cover_run.specs.Telling.{sinks};

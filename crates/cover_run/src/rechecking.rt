@@ -1,6 +1,6 @@
 //! The command `retrack OBS NAV SETTINGS LOG`.
 
-ghost use Rattle.std.specs.Prelude.{◌≡◌, IfOk};
+ghost use Rattle.std.specs.Prelude.{IfOk};
 ghost use Rattle.command_words.specs.Seen.{files_asked};
 ghost use Rattle.cover_run.specs.Checking.{AreReady};
 ghost use Rattle.cover_run.specs.Rechecking.{AcceptsTrack, RefusesTrack, SaysTracked};

@@ -1,6 +1,6 @@
 //! The angle by which the earth turns while light goes a range, and its sine and cosine.
 
-ghost use Rattle.std.specs.Prelude.{ℕ, ◌+◌, ◌*◌, ◌≤◌, ℤ, pos, ◌≤ℤ◌};
+ghost use Rattle.std.specs.Prelude.{ℕ, ◌+◌, ◌≤◌, ℤ, pos, ◌≤ℤ◌};
 ghost use Rattle.grid_model.specs.Sines.{Sine, NearCircle};
 ghost use Rattle.gnss_model.specs.Turn.{IsEarthAngle};
 ghost use Rattle.fix_interval.specs.Factors.{Holds, HasEnds, HasAmount};

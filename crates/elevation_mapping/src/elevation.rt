@@ -1,6 +1,6 @@
 //! The sine of the elevation: the inner product of two directions.
 
-ghost use Rattle.std.specs.Prelude.{ℕ, ◌≡◌, ◌+◌, ◌*◌, ◌/◌, ◌^◌, ◌≤◌, ℤ, pos, ◌+ℤ◌, ◌*ℤ◌};
+ghost use Rattle.std.specs.Prelude.{ℕ, ◌+◌, ◌*◌, ◌/◌, ◌^◌, ◌≤◌, ℤ, pos, ◌+ℤ◌, ◌*ℤ◌};
 ghost use Rattle.grid_model.specs.Amounts.{square};
 ghost use Rattle.grid_model.specs.Angles.{unit};
 ghost use Rattle.grid_model.specs.Roots.{root};

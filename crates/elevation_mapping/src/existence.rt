@@ -1,6 +1,6 @@
 //! Every place that is far enough has a mapping.
 
-ghost use Rattle.std.specs.Prelude.{ℕ, ◌*◌, ◌^◌, ◌≤◌, ℤ, ◌-ℤ◌};
+ghost use Rattle.std.specs.Prelude.{◌*◌, ◌^◌, ◌≤◌, ℤ, ◌-ℤ◌};
 ghost use Rattle.grid_model.specs.Amounts.{square};
 ghost use Rattle.grid_model.specs.Ranges.{range_to};
 ghost use Rattle.grid_model.specs.Squares.{sum_of_squares};

@@ -1,12 +1,10 @@
 //! The up direction of the points of a box and the lines from them to a place.
 
-ghost use Rattle.std.specs.Prelude.{ℕ, ◌≡◌, ◌+◌, ◌*◌, ◌/◌, ◌^◌, ◌≤◌, ℤ, pos, ◌-ℤ◌, ◌≤ℤ◌};
-ghost use Rattle.grid_model.specs.Boxes.{grid_box};
-ghost use Rattle.grid_model.specs.Intervals.{Ends};
+ghost use Rattle.std.specs.Prelude.{ℕ, ◌≡◌, ◌+◌, ◌/◌, ◌^◌, ◌≤◌, ℤ, pos, ◌-ℤ◌, ◌≤ℤ◌};
 ghost use Rattle.grid_model.specs.Roots.{root};
 ghost use Rattle.grid_model.specs.Squares.{sum_of_squares, least_end};
 ghost use Rattle.fix_interval.specs.Factors.{Holds, HasEnds, HasAmount};
-ghost use Rattle.fix_interval.specs.Places.{HoldsPlace, PlaceEnds, PlaceAmount};
+ghost use Rattle.fix_interval.specs.Places.{HoldsPlace, PlaceAmount};
 ghost use Rattle.elevation_mapping.specs.Places.{least_sum, greatest_sum};
 ghost use Rattle.gnss_model.specs.Mapping.{IsRaised};
 ghost use Rattle.elevation_mapping.specs.MappingSizes.{turned_reach};

@@ -1,6 +1,6 @@
 //! The mapping over a box.
 
-ghost use Rattle.std.specs.Prelude.{ℕ, ◌≡◌, ◌+◌, ◌*◌, ◌^◌, ◌≤◌, ℤ, pos, ◌-ℤ◌, ◌*ℤ◌, ◌≤ℤ◌, true};
+ghost use Rattle.std.specs.Prelude.{ℕ, ◌≡◌, ◌*◌, ◌^◌, ◌≤◌, ℤ, pos, ◌-ℤ◌, ◌≤ℤ◌, true};
 ghost use Rattle.grid_model.specs.Angles.{unit};
 ghost use Rattle.grid_model.specs.Boxes.{grid_box, box_holds};
 ghost use Rattle.grid_model.specs.Ranges.{range_to};

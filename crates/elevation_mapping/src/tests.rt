@@ -1,6 +1,6 @@
 ghost use Rattle.std.specs.Prelude.{◌*◌, ◌+◌, ◌^◌, ◌≤◌, ◌≤ℤ◌, IsTrue};
 ghost use Rattle.grid_model.specs.Boxes.{grid_box};
-ghost use Rattle.grid_model.specs.Lengths.{longest_length, spare_of};
+ghost use Rattle.grid_model.specs.Lengths.{spare_of};
 ghost use Rattle.grid_model.specs.Sizes.{IsBoxSize};
 ghost use Rattle.fix_interval.specs.Factors.{HasEnds};
 ghost use Rattle.fix_interval.specs.Places.{PlaceEnds, PlaceAmount};

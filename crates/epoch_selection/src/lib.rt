@@ -7,6 +7,7 @@ mod selection;
 mod walk;
 
 pub use laws::kept_are_selected;
+pub use rinex_obs::{FIRST_EPOCH, LAST_EPOCH};
 pub use searches::Searches;
-pub use selection::{FIRST_EPOCH, LAST_EPOCH, Selection};
+pub use selection::Selection;
 pub use walk::Walk;

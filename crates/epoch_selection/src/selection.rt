@@ -1,12 +1,6 @@
 //! A choice of epochs by their numbers.
 
-use rinex_obs::ObsEpoch;
-
-/// The number of a file's first epoch.
-pub const FIRST_EPOCH: u32 = 1;
-
-/// The greatest number of an epoch.
-pub const LAST_EPOCH: u32 = 200_000;
+use rinex_obs::{FIRST_EPOCH, LAST_EPOCH, ObsEpoch};
 
 /// The epochs whose number is at least `from` and at most `to`.
 #[derive(Clone, Copy, Debug, PartialEq, Eq)]

@@ -1,6 +1,6 @@
 //! Decimals that lie between two whole numbers of units.
 
-ghost use Rattle.std.specs.Prelude.{◌≡◌, ◌↔◌, ◌≤ℤ◌, pos, IsSome, IfSome};
+ghost use Rattle.std.specs.Prelude.{◌↔◌, ◌≤ℤ◌, pos, IsSome, IfSome};
 ghost use Rattle.grid_model.specs.Rounding.{IsFloor, IsCeiling};
 ghost use Rattle.grid_model.specs.Sizes.{IsWithin};
 ghost use Rattle.exact_decimal.specs.Units.{bound_of, numerator, denominator, LiesBetween};

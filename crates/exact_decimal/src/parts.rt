@@ -5,7 +5,7 @@ ghost use Rattle.std.specs.Prelude.{IfSome, option_map};
 ghost use Rattle.std.specs.Char.{is_ascii_digit};
 ghost use Rattle.std.specs.List.{prefix_len};
 ghost use Rattle.std.specs.Str.Parse.{digits_value_after, digits_value};
-ghost use Rattle.exact_decimal.specs.NumberFields.{is_blank, is_exponent_letter, AreDigits, signed};
+ghost use Rattle.exact_decimal.specs.NumberFields.{is_blank, AreDigits, signed};
 ghost use Rattle.exact_decimal.specs.Parts.{front, behind, is_negative, behind_sign, fraction_of};
 ghost use Rattle.exact_decimal.specs.Parts.{behind_fraction, whole_at, fraction_at};
 ghost use Rattle.exact_decimal.specs.Parts.{behind_mantissa, has_digits, exponent_of};

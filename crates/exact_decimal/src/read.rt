@@ -2,7 +2,7 @@
 
 ghost use Rattle.std.specs.Prelude.{◌≡◌, ◌↔◌, ℤ, None, Ok};
 ghost use Rattle.exact_decimal.specs.NumberFields.{AreBlanks, IsFixed, IsFloating};
-ghost use Rattle.exact_decimal.specs.Parts.{fixed_of, fixed_text, floating_of, floating_text};
+ghost use Rattle.exact_decimal.specs.Parts.{fixed_of, floating_of};
 ghost use Rattle.exact_decimal.specs.Reading.{Reads};
 
 use crate::decimal::{BadNumber, Decimal};

@@ -18,6 +18,16 @@ floor_is (pos a) (pos d) h = record { le = omega (arith, ints, div-add-mod' a d)
 floor_is (negsuc a) (pos d) h = record { le = omega (arith, ints, div-add-mod' a d, mod-lt a (positive d h)); gt = omega (arith, ints, div-add-mod' a d) }
 floor_is a (negsuc d) h = absurd (omega (arith, ints))
 
+-- a fraction is rounded down to one number alone
+pub floor_only : (n d q r : ℤ) → pos 0 <ℤ d → IsFloor n d q → IsFloor n d r → q ≡ r
+floor_only n d q r p f g =
+    let a : q <ℤ (r +ℤ pos 1) = below n d q r p f g in
+    let b : r <ℤ (q +ℤ pos 1) = below n d r q p g f in
+    omega (arith, ints)
+  where
+    below : (n d v w : ℤ) → pos 0 <ℤ d → IsFloor n d v → IsFloor n d w → v <ℤ (w +ℤ pos 1)
+    below n d v w p f g = mul_lt_back v (w +ℤ pos 1) d p (omega (arith, ints, f.le, g.gt, add_mul w (pos 1) d))
+
 -- it is no larger in amount than the numerator
 pub floor_within : (k : ℕ) (n d : ℤ) → pos 0 <ℤ d → IsWithin k n → IsWithin k (int_div_euclid n d)
 floor_within k (pos n) (pos d) p h = record { low = omega (arith, ints); high = omega (arith, ints, div-le_self n d) }

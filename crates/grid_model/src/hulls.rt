@@ -1,6 +1,6 @@
 //! The hull of boxes: the least box that holds them all.
 
-ghost use Rattle.std.specs.Prelude.{◌≡◌, ◌≤ℤ◌};
+ghost use Rattle.std.specs.Prelude.{◌≡◌};
 ghost use Rattle.std.specs.Int.{int_min, int_max};
 ghost use Rattle.grid_model.specs.Boxes.{GridBox, grid_box, IsInside};
 ghost use Rattle.grid_model.specs.Hulls.{joined_box};

@@ -1,7 +1,5 @@
 //! Want of memory.
 
-ghost use Rattle.std.specs.Prelude.{◌≡◌};
-
 use std::alloc::{AllocError, AllocFailed};
 
 /// There wasn't memory enough.

@@ -1,6 +1,6 @@
 //! The line on standard error for a receiver's file that is refused.
 
-ghost use Rattle.std.specs.Prelude.{◌≡◌, ◌+◌, ◌≤◌, ◌++◌, length, if◌then◌else◌};
+ghost use Rattle.std.specs.Prelude.{◌≡◌, ◌+◌, ◌≤◌, ◌++◌, length};
 ghost use Rattle.input_files.specs.InputTexts.{header_fault_name, file_fault_name};
 ghost use Rattle.input_files.specs.InputTexts.{settings_fault_name, shown_char, shown};
 ghost use Rattle.input_files.specs.InputTexts.{file_fault_text, settings_fault_text};

@@ -1,6 +1,6 @@
 //! The fields of a line.
 
-ghost use Rattle.std.specs.Prelude.{◌≡◌, ℕ, ℤ, ◌<◌, ◌^◌, ◌≤ℤ◌, List, [], ◌∷◌, pos, neg_ℤ};
+ghost use Rattle.std.specs.Prelude.{◌≡◌, ◌<◌, ◌^◌, pos, neg_ℤ};
 ghost use Rattle.log_tokens.specs.Words.{words_left, Reads, ReadsFront};
 ghost use Rattle.log_tokens.specs.Fields.{number_words, IsFromTo, span_words, IsSpanWithin};
 ghost use Rattle.log_tokens.specs.Fields.{pos_words, IsPosWithin, sat_words, IsNamed, skip_words};

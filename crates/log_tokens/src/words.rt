@@ -1,10 +1,10 @@
 //! The words of a line, from left to right.
 
-ghost use Rattle.std.specs.Prelude.{◌≡◌, ℕ, ◌≤◌, ℤ, ◌≤ℤ◌, List, [], ◌∷◌, IfSome, IfNone, Some};
+ghost use Rattle.std.specs.Prelude.{◌≡◌, ℕ, ◌≤◌, ℤ, ◌≤ℤ◌, [], ◌∷◌, IfSome, IfNone, Some};
 ghost use Rattle.std.specs.Prelude.{IsTrue, ◌↔◌};
 ghost use Rattle.std.specs.Fmt.{decimal, signed_decimal};
 ghost use Rattle.grid_model.specs.Sizes.{IsWithin};
-ghost use Rattle.log_tokens.specs.Words.{words, words_left, ReadsFront};
+ghost use Rattle.log_tokens.specs.Words.{words_left, ReadsFront};
 ghost use Rattle.log_tokens.specs.Fields.{number_words, IsFromTo, IsTime};
 
 use itoa::Buffer;

@@ -1,6 +1,6 @@
 //! The head of a log, and its epochs.
 
-ghost use Rattle.std.specs.Prelude.{◌≡◌, ◌≢◌, ◌+◌, ◌<◌, ◌≤◌, ℕ, List, Option, length, map, true};
+ghost use Rattle.std.specs.Prelude.{◌≡◌, ◌+◌, ◌<◌, ◌≤◌, Option, length, map, true};
 ghost use Rattle.std.specs.Prelude.{false, None, Err, IfOk, IfErr};
 ghost use Rattle.std.specs.List.{AllByRecursion};
 ghost use Rattle.log_writer.specs.Pieces.{alone, head_pieces, version_of};

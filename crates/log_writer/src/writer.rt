@@ -1,9 +1,9 @@
 //! A log and its report while they are written.
 
-ghost use Rattle.std.specs.Prelude.{◌≡◌, ◌≤◌, ◌+◌, ◌++◌, [], ℕ, List, Option, length, true, OnOk};
+ghost use Rattle.std.specs.Prelude.{◌≡◌, ◌≤◌, ◌+◌, ◌++◌, [], length, true, OnOk};
 ghost use Rattle.arrayvec.specs.ArrayVec.{array_vec_len};
 ghost use Rattle.log_writer.specs.Sizes.{piece_size};
-ghost use Rattle.log_writer.specs.Writing.{devices, Sends, Seen, Trust, trust_of, Trusts};
+ghost use Rattle.log_writer.specs.Writing.{devices, Sends, trust_of, Trusts};
 ghost use Rattle.outer_io.specs.Slots.{at};
 ghost use Rattle.outer_io.specs.declared.shelf.Phase.TheVariants.{Writing};
 ghost use Rattle.outer_io.specs.declared.slots.Slot.TheVariants.{Log};

@@ -1,6 +1,6 @@
 //! The record of a made satellite.
 
-ghost use Rattle.std.specs.Prelude.{◌≡◌, ◌≤◌, ◌<◌, ◌+◌, ◌*◌, ◌^◌};
+ghost use Rattle.std.specs.Prelude.{◌≡◌, ◌≤◌, ◌<◌, ◌+◌, ◌*◌};
 ghost use Rattle.made_texts.specs.Fields.{number_of};
 ghost use Rattle.made_texts.specs.NavText.{broadcast_of, IsNamed};
 ghost use Rattle.made_input.specs.MadeRecords.{plain_number, thousandths, made_broadcast};

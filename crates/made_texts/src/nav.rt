@@ -1,9 +1,7 @@
 //! The text of a navigation file.
 
-ghost use Rattle.std.specs.Prelude.{◌≡◌, ◌≤◌, ◌++◌, ◌+◌, ◌%◌, [], ◌∷◌, ℕ, IfOk, List, map, length};
-ghost use Rattle.decimal_digits.specs.Digits.{last_digits};
-ghost use Rattle.made_texts.specs.Fields.{minus_or, field_text};
-ghost use Rattle.made_texts.specs.NavText.{clock_text, further_text, record_text, record_lines};
+ghost use Rattle.std.specs.Prelude.{◌≡◌, ◌≤◌, ◌++◌, ◌+◌, [], ◌∷◌, IfOk, List, map, length};
+ghost use Rattle.made_texts.specs.NavText.{clock_text, further_text, record_text};
 ghost use Rattle.made_texts.specs.NavText.{nav_lines, AreNamed, broadcast_of};
 ghost use Rattle.made_texts.specs.TextLines.{text_of};
 ghost use Rattle.made_texts.specs.declared.ephemeris.Ephemeris.{Ephemeris};

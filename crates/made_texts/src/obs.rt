@@ -1,7 +1,7 @@
 //! The text of an observation file.
 
 ghost use Rattle.std.specs.Prelude.{◌≡◌, ◌≤◌, ◌++◌, ◌+◌, ◌-◌, ◌/◌, ◌%◌, codes, cond, nat_lt};
-ghost use Rattle.std.specs.Prelude.{replicate, false, None, [], ◌∷◌, ℕ, IfOk, List, map, length};
+ghost use Rattle.std.specs.Prelude.{replicate, false, None, [], ◌∷◌, IfOk, List, length};
 ghost use Rattle.std.specs.Fmt.{decimal, sign_text};
 ghost use Rattle.decimal_digits.specs.Digits.{last_digits};
 ghost use Rattle.made_texts.specs.TextLines.{text_of};

@@ -1,7 +1,7 @@
 //! The text of settings.
 
 ghost use Rattle.std.specs.Prelude.{◌≡◌, ◌∷◌, [], false, ℕ, ℤ, List, Some, IfOk, IsUtf8};
-ghost use Rattle.toml.specs.Data.{string, integer, array, table, item, no_items, Members};
+ghost use Rattle.toml.specs.Data.{string, array, table};
 ghost use Rattle.toml.specs.Parse.{parse_document};
 ghost use Rattle.toml.specs.Text.{IsDocumentText};
 ghost use Rattle.toml.specs.View.{view, table_view};

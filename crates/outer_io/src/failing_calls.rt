@@ -1,6 +1,6 @@
 //! The calls of an object in memory that are to fail.
 
-ghost use Rattle.std.specs.Prelude.{◌≡◌, ◌+◌, ◌-◌, ◌^◌, ◌↔◌, ℕ, [], min, true, false, Contains};
+ghost use Rattle.std.specs.Prelude.{◌≡◌, ◌+◌, ◌-◌, ◌↔◌, ℕ, [], true, false};
 
 /// The numbers, from 1, of the calls that are to fail, and how many were made.
 #[derive(Drop)]

@@ -1,6 +1,6 @@
 //! The files of a shelf in memory. The log alone is written, in a buffer of its own.
 
-ghost use Rattle.std.specs.Prelude.{◌≡◌, ◌≤◌, ◌<◌, ◌+◌, ◌-◌, ◌^◌, ◌++◌, ℕ, [], true, false, Some};
+ghost use Rattle.std.specs.Prelude.{◌≡◌, ◌≤◌, ◌<◌, ◌+◌, ◌-◌, ◌^◌, [], true, false, Some};
 ghost use Rattle.std.specs.Prelude.{None, length, slice_get, string_bytes, vec_len, vec_capacity};
 ghost use Rattle.std.specs.Prelude.{is_some, IfOk, IfSome, IfNone};
 ghost use Rattle.std.specs.FinMap as map;

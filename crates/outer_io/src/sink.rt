@@ -1,6 +1,6 @@
 //! A sink, which bytes go into.
 
-ghost use Rattle.std.specs.Prelude.{◌≡◌, ◌≤◌, ◌<◌, ℕ, length, IfOk};
+ghost use Rattle.std.specs.Prelude.{◌≤◌, ◌<◌, ℕ, length, IfOk};
 ghost use Rattle.outer_io.specs.Causes.{HasCause, SucceedsWhile, CountsCall};
 ghost use Rattle.outer_io.specs.Taken.{SinkState, Receives};
 

@@ -1,6 +1,6 @@
 //! Whole pieces, written by as many calls as it takes.
 
-ghost use Rattle.std.specs.Prelude.{◌≡◌, ◌≤◌, ℕ, List, length, take, Option, is_some, true, OnOk};
+ghost use Rattle.std.specs.Prelude.{◌≡◌, ℕ, List, Option, is_some, true, OnOk};
 ghost use Rattle.std.specs.Prelude.{OnErr};
 ghost use Rattle.outer_io.specs.Causes.{HasCause, SucceedsWhile, SucceedsWhileAnd};
 ghost use Rattle.outer_io.specs.Slots.{at};

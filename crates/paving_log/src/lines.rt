@@ -1,6 +1,6 @@
 //! What is left of a text.
 
-ghost use Rattle.std.specs.Prelude.{ℕ, ◌+◌, ◌≤◌, length};
+ghost use Rattle.std.specs.Prelude.{◌+◌, ◌≤◌, length};
 
 use log_lines::Header;
 /// What is left of a text, and the number of its first line.

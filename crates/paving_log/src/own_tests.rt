@@ -1,6 +1,6 @@
 //! The tests of a block's own lines: its first line, and its satellites.
 
-ghost use Rattle.std.specs.Prelude.{◌≡◌, ◌+◌, ◌≤◌, ◌↔◌, length, IsTrue, MatchOption, Contains, map};
+ghost use Rattle.std.specs.Prelude.{◌≡◌, ◌+◌, ◌↔◌, length, IsTrue, MatchOption, Contains, map};
 ghost use Rattle.std.specs.Prelude.{None};
 ghost use Rattle.sat_model.specs.Logs.{sat_of, rows_of};
 ghost use Rattle.sat_model.specs.Verdicts.{IsLater, SuitsNumber, HeadPasses, HeadFails};

@@ -1,6 +1,6 @@
 //! A log, or its rows, from a text.
 
-ghost use Rattle.std.specs.Prelude.{ℕ, ◌≡◌, ◌≢◌, ◌⊎◌, ◌≤◌, length, IfOk, IfErr};
+ghost use Rattle.std.specs.Prelude.{◌≡◌, ◌⊎◌, ◌≤◌, length, IfOk, IfErr};
 ghost use Rattle.sat_model.specs.Logs.{LogValue};
 ghost use Rattle.log_lines.specs.declared.line.Place.TheVariants as place;
 ghost use Rattle.paving_log.specs.declared.log.LogError.{LogError};

@@ -1,7 +1,7 @@
 //! The verdict on a log, checked against files.
 
-ghost use Rattle.std.specs.Prelude.{◌≡◌, ◌+◌, ◌<◌, ◌≤◌, ◌^◌, ◌↔◌, ℕ, List, [], ◌∷◌, map, IsTrue};
-ghost use Rattle.std.specs.Prelude.{IfOk, IfSome, MatchOption, Option, Some, None, drop, length};
+ghost use Rattle.std.specs.Prelude.{◌≡◌, ◌+◌, ◌<◌, ◌≤◌, ◌↔◌, List, ◌∷◌, map, IsTrue};
+ghost use Rattle.std.specs.Prelude.{IfOk, IfSome, MatchOption, Option, Some, None, drop};
 ghost use Rattle.epoch_selection.specs.Searches.{Search};
 ghost use Rattle.grid_model.specs.Boxes.{grid_box};
 ghost use Rattle.grid_model.specs.SearchBoxes.{IsSearchBox};

@@ -1,6 +1,6 @@
 //! Contracting a box by a tree.
 
-ghost use Rattle.std.specs.Prelude.{◌≡◌, option_map, Some, IsTrue};
+ghost use Rattle.std.specs.Prelude.{option_map, Some, IsTrue};
 ghost use Rattle.grid_model.specs.Boxes.{grid_box, span_side};
 ghost use Rattle.sat_model.specs.Trees.{IsWellFormed, HasSoundNodes, HaveSoundNodes, Relaxed};
 ghost use Rattle.sat_model.specs.Trees.{Again};

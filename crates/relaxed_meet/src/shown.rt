@@ -1,6 +1,6 @@
 //! What the rows show of a box.
 
-ghost use Rattle.std.specs.Prelude.{◌≡◌, ◌-◌, ◌<◌, ◌≤◌, ◌↔◌, length, IfSome, IsNone};
+ghost use Rattle.std.specs.Prelude.{◌-◌, ◌<◌, ◌≤◌, ◌↔◌, length, IfSome, IsNone};
 ghost use Rattle.grid_model.specs.Boxes.{grid_box};
 ghost use Rattle.relaxed_meet.specs.BoxStates.{IsBoxState, span_test};
 ghost use Rattle.sat_model.specs.ClockSpans.{IsClockHull, IsShownEmpty, NoneIsShownInner};

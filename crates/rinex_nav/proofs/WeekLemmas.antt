@@ -4,11 +4,12 @@ use Rattle.std.specs.Prelude.{ℤ, pos, neg_ℤ, ◌+ℤ◌, ◌-ℤ◌, ◌*ℤ
 use Rattle.std.specs.Int.{w128}
 use Rattle.std.proofs.lemmas.Int.{ints}
 use Rattle.exact_decimal.specs.declared.unit.Unit.TheVariants.{Time}
-use Rattle.exact_decimal.proofs.Limits.{below_floor, some_parts}
+use Rattle.exact_decimal.proofs.Limits.{some_parts}
 use Rattle.gnss_model.specs.RecordBounds.{week, LiesFrom, IsNearTime}
 use Rattle.grid_model.specs.Sizes.{IsWithin}
 use Rattle.grid_model.specs.declared.spans.Wide.{Wide}
 use Rattle.grid_model.specs.Rounding.{IsFloor}
+use Rattle.grid_model.proofs.RoundingLemmas.{floor_only}
 use Rattle.rinex_nav.specs.Weeks.{IsNearestWeek, IsEphemerisTime, IsAge}
 use Rattle.rinex_nav.specs.FieldBounds.{field_of}
 use Rattle.rinex_nav.specs.declared.record.NavRecord.{NavRecord}
@@ -55,12 +56,6 @@ apart_fits a b from under size =
     search rules
 
 -- ---- there is only one
-
-pub floor_only : (num den p q : ℤ) → pos 0 <ℤ den → IsFloor num den p → IsFloor num den q → p ≡ q
-floor_only num den p q some f g =
-    let below : p ≤ℤ q = (below_floor num den p q some g).1 f.le in
-    let above : q ≤ℤ p = (below_floor num den q p some f).1 g.le in
-    omega (arith, ints)
 
 pub week_only : (toc toe a b : ℤ) → IsNearestWeek toc toe a → IsNearestWeek toc toe b → a ≡ b
 week_only toc toe a b v w =

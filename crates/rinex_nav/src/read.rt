@@ -1,7 +1,7 @@
 //! Navigation files.
 
-ghost use Rattle.std.specs.Prelude.{◌≡◌, ◌≤◌, ◌<◌, ◌+◌, true, List, IfOk, IfErr, OnOk, Some, None};
-ghost use Rattle.std.specs.Prelude.{is_some, Ok, Err, drop, length, map, option_map, ◌++◌, ◌⊎◌};
+ghost use Rattle.std.specs.Prelude.{◌≡◌, ◌≤◌, ◌<◌, ◌+◌, List, IfOk, IfErr, OnOk, Some, None};
+ghost use Rattle.std.specs.Prelude.{is_some, Ok, Err, length, option_map, ◌++◌, ◌⊎◌};
 ghost use Rattle.rinex_text.specs.Lines.{lines_of};
 ghost use Rattle.rinex_text.specs.Headers.{version_by};
 ghost use Rattle.rinex_text.specs.declared.fault.Refusal.{Refusal};

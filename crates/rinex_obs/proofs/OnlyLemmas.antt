@@ -14,7 +14,7 @@ use Rattle.grid_model.specs.declared.boxes.Pos.{Pos}
 use Rattle.gnss_model.specs.declared.satellites.Signal.{Signal}
 use Rattle.rinex_obs.specs.declared.sought.Sought.{Sought}
 use Rattle.gnss_model.specs.declared.satellites.Signal.TheVariants.{Single, Dual}
-use Rattle.grid_model.proofs.ProductLemmas.{add_mul, mul_lt_back}
+use Rattle.grid_model.proofs.RoundingLemmas.{floor_only}
 use Rattle.rinex_text.specs.Bodies.{counted}
 use Rattle.rinex_text.specs.Headers.{Behind}
 use Rattle.rinex_text.specs.Lines.{TextLine, lines_of}
@@ -107,15 +107,10 @@ second_only text (Some place) x y a b = observed_only _ x y a b
 
 -- ---- the header
 
-pub floor_most : (n d q r : ℤ) → pos 0 <ℤ d → IsFloor n d q → IsFloor n d r → q ≤ℤ r
-floor_most n d q r p f g =
-    let k : q <ℤ (r +ℤ pos 1) = mul_lt_back q (r +ℤ pos 1) d p (omega (arith, ints, add_mul r (pos 1) d, f.le, g.gt)) in
-    omega (arith, ints)
-
 coordinate_only : (number : Decimal) → IsOnly (IsCoordinate number)
 coordinate_only number q r a b =
     let den : pos 0 <ℤ pos (denominator number.ten Length) = omega (arith, ints, power_some (denominator number.ten Length)) in
-    omega (arith, ints, floor_most _ _ q r den a.floor b.floor, floor_most _ _ r q den b.floor a.floor)
+    floor_only _ _ q r den a.floor b.floor
 
 point_only : (coordinates : Coordinates) → IsOnly (IsPoint coordinates)
 point_only coordinates p q a b = same_point _ _ _ _ _ _ (coordinate_only _ p.x q.x a.x b.x) (coordinate_only _ p.y q.y a.y b.y) (coordinate_only _ p.z q.z a.z b.z)

@@ -1,7 +1,7 @@
 //! The header of an observation file.
 
 ghost use Rattle.std.specs.Prelude.{◌≡◌, ◌↔◌, ◌<◌, IsTrue, IfOk, IfErr, IfSome, IfNone, Ok, Err};
-ghost use Rattle.std.specs.Prelude.{Option, option_map, OnSome, true, codes};
+ghost use Rattle.std.specs.Prelude.{Option, option_map, true, codes};
 ghost use Rattle.rinex_text.specs.Columns.{label_of};
 ghost use Rattle.rinex_text.specs.Reading.{plain_line, lines_left};
 ghost use Rattle.rinex_text.specs.declared.lines.Lines.{Lines};

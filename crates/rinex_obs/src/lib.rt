@@ -16,5 +16,7 @@ mod sought;
 mod types;
 
 pub use obs::{Obs, ObsEpoch, SatObs};
-pub use read::{read_obs, read_obs_between, read_obs_both, read_obs_of, read_station};
+pub use read::{
+    FIRST_EPOCH, LAST_EPOCH, read_obs, read_obs_between, read_obs_both, read_obs_of, read_station,
+};
 pub use sought::Sought;

@@ -1,6 +1,6 @@
 //! Observation files.
 
-ghost use Rattle.std.specs.Prelude.{◌≡◌, ◌≤◌, IfOk, IfErr, length};
+ghost use Rattle.std.specs.Prelude.{◌≤◌, IfOk, IfErr, length};
 ghost use Rattle.rinex_text.specs.Lines.{lines_of};
 ghost use Rattle.rinex_text.specs.Reading.{Refuses, GivesRefusal};
 ghost use Rattle.rinex_text.specs.Whole.{IsSettled};
@@ -25,10 +25,10 @@ use rinex_text::{Body, ReadError, behind_version_of};
 use std::alloc::Global;
 
 /// The number of a file's first epoch.
-const FIRST_EPOCH: u32 = 1;
+pub const FIRST_EPOCH: u32 = 1;
 
 /// The greatest number of an epoch.
-const LAST_EPOCH: u32 = 200_000;
+pub const LAST_EPOCH: u32 = 200_000;
 
 /// The observations of a file with the epochs from the one number to the other, or its first fault.
 /// The times of its epochs have to rise or needn't.

@@ -1,6 +1,6 @@
 //! The satellite lines of an epoch.
 
-ghost use Rattle.std.specs.Prelude.{◌≡◌, ◌<◌, ◌≤◌, [], IfOk, IfErr, IfSome, Ok, length};
+ghost use Rattle.std.specs.Prelude.{◌<◌, ◌≤◌, [], IfOk, IfErr, IfSome, Ok, length};
 ghost use Rattle.rinex_text.specs.Reading.{body_behind, Takes, Fails, Leaves, Refuses};
 ghost use Rattle.rinex_obs.specs.Epochs.{satellite_line, satellites_from};
 ghost use Rattle.rinex_obs.specs.Reading.{wanted_of, with_found};

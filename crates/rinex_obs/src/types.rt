@@ -1,6 +1,6 @@
 //! The header lines with the observation types of the systems.
 
-ghost use Rattle.std.specs.Prelude.{◌≡◌, ◌<◌, ◌↔◌, IsTrue, List, Option, is_some};
+ghost use Rattle.std.specs.Prelude.{◌≡◌, ◌<◌, ◌↔◌, IsTrue, Option, is_some};
 ghost use Rattle.rinex_obs.specs.Types.{Types, code_at, more_codes, first_codes, IsOf, IsRead};
 ghost use Rattle.rinex_obs.specs.Types.{is_read, GoesOn, types_line, galileo_line};
 ghost use Rattle.rinex_obs.specs.Reading.{Stands, IsFound, MayBeFound, AreFoundOf};

@@ -1,6 +1,6 @@
 //! Counts on a line.
 
-ghost use Rattle.std.specs.Prelude.{◌≡◌, ◌≤◌, ◌+◌, ℕ, IfSome, IfNone};
+ghost use Rattle.std.specs.Prelude.{◌≤◌, ◌+◌, ℕ, IfSome, IfNone};
 ghost use Rattle.exact_decimal.specs.Counts.{IsCount};
 ghost use Rattle.rinex_text.specs.Columns.{columns_of};
 ghost use Rattle.rinex_text.specs.Counts.{IsNumber};

@@ -1,24 +1,15 @@
 -- Quotients that are guessed and tested.
 use Rattle.std.proofs.Common.{◌≡◌, ℕ, ◌*◌, ◌/◌, ◌<◌, arith, rules, false, IsTrue, ◌↔◌}
-use Rattle.std.specs.Prelude.{ℤ, pos, ◌+ℤ◌, ◌-ℤ◌, ◌*ℤ◌, ◌<ℤ◌}
+use Rattle.std.specs.Prelude.{ℤ, pos, ◌-ℤ◌, ◌*ℤ◌, ◌<ℤ◌}
 use Rattle.std.specs.Int.{int_div_euclid}
 use Rattle.std.proofs.lemmas.Int.{ints}
 use Rattle.grid_model.specs.Rounding.{IsFloor}
-use Rattle.grid_model.proofs.ProductLemmas.{mul_lt_back, add_mul}
-use Rattle.grid_model.proofs.RoundingLemmas.{floor_is}
+use Rattle.grid_model.proofs.RoundingLemmas.{floor_is, floor_only}
 use lib.Signed.{lt_z}
 
 -- a fraction rounded down is the quotient
 pub quotient_is : (n d q : ℤ) → pos 0 <ℤ d → IsFloor n d q → q ≡ int_div_euclid n d
-quotient_is n d q p f =
-    let r = int_div_euclid n d in
-    let g : IsFloor n d r = floor_is n d p in
-    let a : q <ℤ (r +ℤ pos 1) = below n d q r p f g in
-    let b : r <ℤ (q +ℤ pos 1) = below n d r q p g f in
-    omega (arith, ints)
-  where
-    below : (n d v w : ℤ) → pos 0 <ℤ d → IsFloor n d v → IsFloor n d w → v <ℤ (w +ℤ pos 1)
-    below n d v w p f g = mul_lt_back v (w +ℤ pos 1) d p (omega (arith, ints, f.le, g.gt, add_mul w (pos 1) d))
+quotient_is n d q p f = floor_only n d q (int_div_euclid n d) p f (floor_is n d p)
 
 -- what is left over tells whether v is the fraction rounded down
 pub left_over : (n v d : ℤ) → lt_z (n -ℤ (v *ℤ d)) (pos 0) ≡ false

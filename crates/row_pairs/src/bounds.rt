@@ -1,8 +1,8 @@
 //! The numbers of a row's form, each with its size: v is the way from the middle of the satellite's
 //! place to that of the box, in um, and A more than its length.
 
-ghost use Rattle.std.specs.Prelude.{◌≡◌, ℕ, ◌≤◌, ◌<◌, ◌*◌, ◌+◌, ◌^◌, pos, unsigned_abs};
-ghost use Rattle.std.specs.Prelude.{◌↔◌, ◌+ℤ◌, ◌-ℤ◌, ◌*ℤ◌, ◌≤ℤ◌, IsTrue};
+ghost use Rattle.std.specs.Prelude.{◌≡◌, ◌≤◌, ◌<◌, ◌*◌, ◌+◌, pos, unsigned_abs};
+ghost use Rattle.std.specs.Prelude.{◌↔◌, ◌+ℤ◌, ◌-ℤ◌, ◌*ℤ◌, IsTrue};
 ghost use Rattle.std.specs.Int.{int_div_euclid};
 ghost use Rattle.grid_model.specs.Amounts.{square};
 ghost use Rattle.grid_model.specs.Roots.{root};

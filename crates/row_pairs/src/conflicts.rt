@@ -1,6 +1,6 @@
 //! Forms in conflict over a box.
 
-ghost use Rattle.std.specs.Prelude.{◌≡◌, ℤ, ◌↔◌, ◌⊎◌, ◌*ℤ◌, ◌≤ℤ◌, ◌-ℤ◌, IsTrue};
+ghost use Rattle.std.specs.Prelude.{◌≡◌, ℤ, ◌↔◌, ◌*ℤ◌, ◌≤ℤ◌, ◌-ℤ◌, IsTrue};
 ghost use Rattle.grid_model.specs.Boxes.{grid_box, side_at};
 ghost use Rattle.grid_model.specs.Sizes.{IsWithin};
 ghost use Rattle.sat_model.specs.Pairs.{IsBelow, Conflict};

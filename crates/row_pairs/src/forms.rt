@@ -1,6 +1,5 @@
 //! A row's form around a box.
 
-ghost use Rattle.std.specs.Prelude.{◌≡◌};
 ghost use Rattle.grid_model.specs.Sizes.{IsWithin};
 
 /// What a row says of a point of a box and an offset b, in um: S b plus the slopes times the

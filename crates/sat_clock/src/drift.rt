@@ -1,7 +1,7 @@
 //! The clock's offset by its polynomial (IS-GPS-200, 20.3.3.3.3.1), and what a user of one
 //! frequency takes off (20.3.3.3.3.2).
 
-ghost use Rattle.std.specs.Prelude.{◌≡◌, ◌+◌, ℤ, ◌-ℤ◌};
+ghost use Rattle.std.specs.Prelude.{◌+◌, ℤ, ◌-ℤ◌};
 ghost use Rattle.gnss_model.specs.ClockChain.{ClockFields, AreClockFields, IsAdvanced, less_delay};
 ghost use Rattle.grid_model.specs.Intervals.{Between, Ends};
 ghost use Rattle.gnss_model.specs.RecordBounds.{IsValue};

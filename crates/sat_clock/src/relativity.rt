@@ -1,7 +1,7 @@
 //! The relativistic correction of the clock, which goes by the sine of the eccentric anomaly
 //! (IS-GPS-200, 20.3.3.3.3.1).
 
-ghost use Rattle.std.specs.Prelude.{◌≡◌, ◌+◌, ◌*◌, ◌/◌, ◌^◌, ℤ, pos, neg_ℤ, ◌+ℤ◌, ◌-ℤ◌, ◌*ℤ◌, ◌≤ℤ◌};
+ghost use Rattle.std.specs.Prelude.{◌≡◌, ◌+◌, ◌*◌, ◌/◌, ◌^◌, ℤ, pos, neg_ℤ, ◌+ℤ◌, ◌-ℤ◌, ◌*ℤ◌};
 ghost use Rattle.grid_model.specs.Angles.{unit};
 ghost use Rattle.gnss_model.specs.ClockChain.{ClockFields, AreClockFields, IsAdvanced, IsEarlier};
 ghost use Rattle.grid_model.specs.Intervals.{Between, Ends};

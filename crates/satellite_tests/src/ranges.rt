@@ -1,7 +1,5 @@
 //! Pseudoranges without the ionosphere, and when their signals were sent.
 
-ghost use Rattle.std.specs.Prelude.{◌≡◌};
-
 use fix_interval::Exact;
 use grid_model::Wide;
 use pseudorange_prep::{corrected, dual, sent_at, single};

@@ -1,6 +1,6 @@
 //! Rows of a satellite over a search box and its parts.
 
-ghost use Rattle.std.specs.Prelude.{◌≡◌, ◌^◌, pos, ◌+ℤ◌};
+ghost use Rattle.std.specs.Prelude.{◌≡◌, pos};
 ghost use Rattle.grid_model.specs.Boxes.{grid_box};
 ghost use Rattle.grid_model.specs.SearchBoxes.{IsSearchBox};
 ghost use Rattle.gnss_model.specs.Delays.{AreDelays};

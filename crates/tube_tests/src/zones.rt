@@ -1,6 +1,6 @@
 //! Zones that are read, and answers of boxes.
 
-ghost use Rattle.std.specs.Prelude.{length, ◌≤◌, ◌≤ℤ◌};
+ghost use Rattle.std.specs.Prelude.{◌≤◌, ◌≤ℤ◌};
 ghost use Rattle.grid_model.specs.Sizes.{IsBoxSize};
 
 use grid_model::{Box3, Pos};

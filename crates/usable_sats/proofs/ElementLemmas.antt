@@ -17,7 +17,8 @@ use Rattle.gnss_model.specs.declared.elements.Elements.{Elements}
 use Rattle.grid_model.specs.declared.spans.Wide.{Wide}
 use Rattle.grid_model.proofs.ProductLemmas.{add_mul, mul_lt_back}
 use Rattle.grid_model.proofs.OrderLemmas.{le_prop, lt_prop}
-use Rattle.rinex_nav.proofs.WeekLemmas.{floor_only as one_floor, week_only as one_week}
+use Rattle.grid_model.proofs.RoundingLemmas.{floor_only as one_floor}
+use Rattle.rinex_nav.proofs.WeekLemmas.{week_only as one_week}
 
 -- ---- numbers
 

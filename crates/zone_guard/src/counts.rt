@@ -1,6 +1,6 @@
 //! In how many epochs of a log a zone is so.
 
-ghost use Rattle.std.specs.Prelude.{◌≡◌, ◌≤◌, ◌<◌, ◌^◌, length};
+ghost use Rattle.std.specs.Prelude.{◌≡◌, ◌<◌, ◌^◌, length};
 ghost use Rattle.std.specs.List.{count_by};
 ghost use Rattle.zone_guard.specs.Counted.{item_at, finding_at, is_answer, is_few, counts_at};
 

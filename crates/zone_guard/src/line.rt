@@ -1,7 +1,6 @@
 //! The lines that are told of epochs and zones.
 
-ghost use Rattle.std.specs.Prelude.{◌≡◌, ◌++◌, codes, length, ◌+◌, ◌≤◌};
-ghost use Rattle.std.specs.Fmt.{decimal};
+ghost use Rattle.std.specs.Prelude.{◌≡◌, ◌++◌, length, ◌+◌, ◌≤◌};
 ghost use Rattle.zone_guard.specs.Texts.{answer_text, zone_text, few_text, extent_text, reach_text};
 ghost use Rattle.zone_guard.specs.Texts.{finding_text, counts_text, whole_text};
 

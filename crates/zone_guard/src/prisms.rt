@@ -1,6 +1,6 @@
 //! Whether the boxes that an epoch keeps lie in a prism or outside it.
 
-ghost use Rattle.std.specs.Prelude.{◌↔◌, IsTrue, IfOk, map};
+ghost use Rattle.std.specs.Prelude.{◌↔◌, IsTrue, map};
 ghost use Rattle.grid_model.specs.Boxes.{grid_box};
 ghost use Rattle.zone_guard.specs.Planes.{plane_values};
 ghost use Rattle.zone_guard.specs.PrismAnswers.{IsShutOut, IsEnclosed, AreShutOut, AreEnclosed};
