@@ -6,8 +6,8 @@ use bound_lines::{BoundHead, bound_at, sum_at};
 use bound_search::{Direction, find_bound};
 use grid_model::Box3;
 use log_tokens::{Rest, amount, count, is_ended, word};
-use row_sums::{RowSum, shows_half_space};
-use sat_model::Row;
+use row_sums::shows_half_space;
+use sat_model::{Row, RowSum};
 use std::alloc::Global;
 
 /// An epoch has as many rows at most.

@@ -8,9 +8,9 @@ use Rattle.grid_model.specs.Sizes.{IsWithin}
 use Rattle.grid_model.proofs.OrderLemmas.{le_prop as int_prop}
 use Rattle.log_tokens.proofs.NumberLemmas.{one_number}
 use Rattle.step_lines.specs.OneSpelling.{IsWord, AreWords, within_word, count_word, count_same, at_index}
-use Rattle.row_sums.specs.declared.half_spaces.HalfSpace.{HalfSpace}
-use Rattle.row_sums.specs.declared.row_sums.Term.{Term}
-use Rattle.row_sums.specs.declared.row_sums.RowSum.{RowSum}
+use Rattle.sat_model.specs.declared.half_spaces.HalfSpace.{HalfSpace}
+use Rattle.sat_model.specs.declared.row_sums.Term.{Term}
+use Rattle.sat_model.specs.declared.row_sums.RowSum.{RowSum}
 use Rattle.bound_lines.specs.declared.bound_head.BoundHead.{BoundHead}
 use Rattle.bound_lines.specs.BoundLines.{bound_words, sum_words}
 

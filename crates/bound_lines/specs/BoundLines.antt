@@ -3,9 +3,9 @@
 use Rattle.std.specs.Prelude.{ℕ, List, [], ◌∷◌, ◌++◌, codes}
 use Rattle.std.specs.Fmt.{decimal, signed_decimal}
 use Rattle.log_tokens.specs.Words.{joined}
-use Rattle.row_sums.specs.declared.half_spaces.HalfSpace.{HalfSpace}
-use Rattle.row_sums.specs.declared.row_sums.Term.{Term}
-use Rattle.row_sums.specs.declared.row_sums.RowSum.{RowSum}
+use Rattle.sat_model.specs.declared.half_spaces.HalfSpace.{HalfSpace}
+use Rattle.sat_model.specs.declared.row_sums.Term.{Term}
+use Rattle.sat_model.specs.declared.row_sums.RowSum.{RowSum}
 use Rattle.bound_lines.specs.declared.bound_head.BoundHead.{BoundHead}
 
 abbrev pub Any : {X : Type 0} → X → Type 0

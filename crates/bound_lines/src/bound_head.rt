@@ -2,7 +2,7 @@
 
 ghost use Rattle.std.specs.Prelude.{◌≤◌};
 
-use row_sums::HalfSpace;
+use sat_model::HalfSpace;
 
 /// A half-space, and how many sums of rows follow that show it: 1 to 64.
 #[derive(Clone, Copy, Debug, PartialEq, Eq)]

@@ -6,7 +6,7 @@ ghost use Rattle.bound_lines.specs.BoundLines.{sum_words};
 
 use crate::bound_head::BoundHead;
 use log_tokens::{Rest, amount, count, is_ended, number};
-use row_sums::{HalfSpace, RowSum, Term};
+use sat_model::{HalfSpace, RowSum, Term};
 
 /// The greatest amount of a direction's component.
 const GREATEST_COMPONENT: u64 = 1_000_000;

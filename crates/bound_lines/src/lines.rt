@@ -3,12 +3,12 @@
 ghost use Rattle.std.specs.Prelude.{◌≡◌, ◌↔◌, Some};
 ghost use Rattle.bound_lines.specs.BoundLines.{bound_text, sum_text};
 ghost use Rattle.bound_lines.specs.declared.bound_head.BoundHead.{BoundHead};
-ghost use Rattle.row_sums.specs.declared.row_sums.RowSum.{RowSum};
+ghost use Rattle.sat_model.specs.declared.row_sums.RowSum.{RowSum};
 
 use crate::bound_head::BoundHead;
 use crate::fields::{bound_fields, sum_fields};
 use log_tokens::word;
-use row_sums::RowSum;
+use sat_model::RowSum;
 
 /// The half-space and the number of sums that this line, without its LF, is the line of.
 pub fn bound_at(line: &[u8]) -> Option<BoundHead>

@@ -5,7 +5,7 @@ ghost use Rattle.std.specs.Fmt.{decimal, signed_decimal};
 ghost use Rattle.bound_lines.specs.BoundLines.{bound_text, sum_text};
 
 use crate::bound_head::BoundHead;
-use row_sums::{RowSum, Term};
+use sat_model::{RowSum, Term};
 use step_lines::{Line, push_number, push_numbers, push_three};
 
 /// The place of a row and its multiplier, each behind a blank.

@@ -1,6 +1,6 @@
 -- A half-space in a direction.
 use Rattle.std.specs.Prelude.{◌≡◌}
-use Rattle.row_sums.specs.declared.half_spaces.HalfSpace.{HalfSpace}
+use Rattle.sat_model.specs.declared.half_spaces.HalfSpace.{HalfSpace}
 use Rattle.bound_search.specs.declared.directions.Direction.{Direction}
 
 -- its vector is the direction

@@ -5,7 +5,7 @@ ghost use Rattle.std.specs.Prelude.{◌<◌, IfSome};
 use crate::basis::Basis;
 use crate::constraints::SIDES;
 use crate::fixed::{ONE, ratio};
-use row_sums::{RowSum, Term};
+use sat_model::{RowSum, Term};
 
 /// The greatest multiplier of a sum: with 16 bits a bound is some millimetres further than the exact
 /// one.

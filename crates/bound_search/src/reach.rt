@@ -4,7 +4,7 @@ use crate::directions::Direction;
 use crate::fixed::{floor_ratio, ratio};
 use grid_model::Box3;
 use row_pairs::{Form, middle_of};
-use row_sums::RowSum;
+use sat_model::RowSum;
 
 /// The greatest aim of a sum, 2^44.
 const MOST_AIM: u64 = 17_592_186_044_416;

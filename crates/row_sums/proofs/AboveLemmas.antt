@@ -9,8 +9,8 @@ use Rattle.grid_model.specs.Sizes.{IsWithin}
 use Rattle.grid_model.proofs.ProductLemmas.{distrib, distrib_less, mul_assoc}
 use Rattle.sat_model.specs.Pairs.{tilt}
 use Rattle.row_pairs.specs.Leasts.{IsLeastLead}
-use Rattle.row_sums.specs.declared.half_spaces.HalfSpace.{HalfSpace}
-use Rattle.row_sums.specs.HalfSpaces.{along, SumValue, sum_tilt, IsAbove}
+use Rattle.sat_model.specs.declared.half_spaces.HalfSpace.{HalfSpace}
+use Rattle.sat_model.specs.HalfSpaces.{along, SumValue, sum_tilt, IsAbove}
 use Rattle.row_sums.specs.SumValues.{slope_form, aim_form}
 
 -- how far along the direction the middle of the box is

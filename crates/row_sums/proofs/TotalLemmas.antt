@@ -10,8 +10,8 @@ use Rattle.grid_model.specs.Sizes.{IsWithin}
 use Rattle.row_pairs.specs.declared.forms.Form.{Form}
 use Rattle.row_pairs.specs.FormValues.{form_value}
 use Rattle.sat_model.specs.Pairs.{FormValue}
-use Rattle.row_sums.specs.declared.row_sums.Term.{Term}
-use Rattle.row_sums.specs.HalfSpaces.{SumValue, end_of, add_form, add_terms, form_at, no_form, IsUsableBound, IsUsable}
+use Rattle.sat_model.specs.declared.row_sums.Term.{Term}
+use Rattle.sat_model.specs.HalfSpaces.{SumValue, end_of, add_form, add_terms, form_at, no_form, IsUsableBound, IsUsable}
 
 pub form_is : (forms : List Form) (place : ℕ) (form : Form) → place < length forms
     → form ≡ get_or forms place form → form_at (map form_value forms) place ≡ form_value form

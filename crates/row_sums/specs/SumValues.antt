@@ -1,9 +1,9 @@
 -- A sum and a direction as plain numbers.
 use Rattle.std.specs.Prelude.{ℕ, pos, ◌*ℤ◌}
 use Rattle.sat_model.specs.Pairs.{FormValue}
-use Rattle.row_sums.specs.declared.half_spaces.HalfSpace.{HalfSpace}
+use Rattle.sat_model.specs.declared.half_spaces.HalfSpace.{HalfSpace}
 use Rattle.row_sums.specs.declared.form_sum.FormSum.{FormSum}
-use Rattle.row_sums.specs.HalfSpaces.{SumValue}
+use Rattle.sat_model.specs.HalfSpaces.{SumValue}
 
 abbrev pub sum_value : FormSum → SumValue
 sum_value s = record { multipliers = s.multipliers; x = s.x; y = s.y; z = s.z; most = s.most }

@@ -3,7 +3,7 @@
 ghost use Rattle.std.specs.Prelude.{◌≡◌, ◌<◌, ◌+◌, ◌*ℤ◌};
 ghost use Rattle.grid_model.specs.Sizes.{IsWithin};
 ghost use Rattle.row_pairs.specs.FormValues.{form_value};
-ghost use Rattle.row_sums.specs.HalfSpaces.{IsUsableBound, add_form, end_of};
+ghost use Rattle.sat_model.specs.HalfSpaces.{IsUsableBound, add_form, end_of};
 ghost use Rattle.row_sums.specs.SumValues.{sum_value};
 
 use crate::form_sum::FormSum;

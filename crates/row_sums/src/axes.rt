@@ -5,9 +5,9 @@ ghost use Rattle.grid_model.specs.Boxes.{grid_box, middle};
 ghost use Rattle.grid_model.specs.Sizes.{IsWithin, IsBoxSize};
 ghost use Rattle.row_pairs.specs.Leasts.{IsLeastTerm};
 
-use crate::half_spaces::HalfSpace;
 use grid_model::Box3;
 use row_pairs::middle_of;
+use sat_model::HalfSpace;
 
 /// A slope less `aim` times the direction's component on its axis.
 pub(crate) fn aimed_slope(slope: i64, aim: u64, component: i64) -> i128

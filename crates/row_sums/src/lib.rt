@@ -14,15 +14,9 @@ mod axes;
 mod covered;
 mod disjoint;
 mod form_sum;
-mod half_spaces;
-mod laws;
 mod one_sum;
-mod row_sums;
 mod shown;
 mod totals;
 
 pub use covered::uncovered_choice;
-pub use half_spaces::HalfSpace;
-pub use laws::{all_lies_in, fits_lies_in};
-pub use row_sums::{RowSum, Term};
 pub use shown::{forms_show, shows_half_space};

@@ -5,16 +5,15 @@ ghost use Rattle.grid_model.specs.Boxes.{grid_box, middle};
 ghost use Rattle.grid_model.specs.Sizes.{IsWithin};
 ghost use Rattle.row_pairs.specs.FormValues.{form_value};
 ghost use Rattle.row_pairs.specs.Leasts.{IsLeastLead};
-ghost use Rattle.row_sums.specs.HalfSpaces.{IsAbove, IsShownBy};
+ghost use Rattle.sat_model.specs.HalfSpaces.{IsAbove, IsShownBy};
 ghost use Rattle.row_sums.specs.SumValues.{sum_value, slope_form, aim_form};
 
 use crate::axes::{aimed_slope, least_term, middle_along};
 use crate::form_sum::FormSum;
-use crate::half_spaces::HalfSpace;
-use crate::row_sums::RowSum;
 use crate::totals::total;
 use grid_model::Box3;
 use row_pairs::Form;
+use sat_model::{HalfSpace, RowSum};
 
 /// The least over the box of what the sum's linear function is above `aim` times the direction's,
 /// both from the middle of the box: it is at a corner, which signs tell.

@@ -3,16 +3,14 @@
 ghost use Rattle.std.specs.Prelude.{◌≤◌, ◌↔◌, IsTrue, length, map, All};
 ghost use Rattle.grid_model.specs.Boxes.{grid_box};
 ghost use Rattle.row_pairs.specs.FormValues.{form_value};
-ghost use Rattle.row_sums.specs.HalfSpaces.{IsShownBy, FormsShow, ShowHalfSpace};
+ghost use Rattle.sat_model.specs.HalfSpaces.{IsShownBy, FormsShow, ShowHalfSpace};
 
 use crate::covered::uncovered_choice;
-use crate::half_spaces::HalfSpace;
 use crate::one_sum::is_shown_by;
-use crate::row_sums::RowSum;
 use arrayvec::ArrayVec;
 use grid_model::Box3;
 use row_pairs::{Form, forms_of};
-use sat_model::Row;
+use sat_model::{HalfSpace, Row, RowSum};
 
 /// Whether the sums are a certificate that all but `q` rows are possible at no point of the box that
 /// is beyond the half-space: each sum shows it where its own rows are possible, and whichever `q`

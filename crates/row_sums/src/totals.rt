@@ -2,13 +2,13 @@
 
 ghost use Rattle.std.specs.Prelude.{◌≡◌, ◌≤◌, ◌↔◌, IsTrue, length, map, drop, All, IsNone, IfSome};
 ghost use Rattle.row_pairs.specs.FormValues.{form_value};
-ghost use Rattle.row_sums.specs.HalfSpaces.{IsUsableBound, IsUsable, add_terms, empty_sum};
+ghost use Rattle.sat_model.specs.HalfSpaces.{IsUsableBound, IsUsable, add_terms, empty_sum};
 ghost use Rattle.row_sums.specs.SumValues.{sum_value};
 
 use crate::adding::added;
 use crate::form_sum::FormSum;
-use crate::row_sums::Term;
 use row_pairs::Form;
+use sat_model::Term;
 
 /// 10^30, in um of 1 / S: bounds within this can be added.
 const BOUND_LIMIT: i128 = 1_000_000_000_000_000_000_000_000_000_000;

@@ -14,15 +14,15 @@ use Rattle.sat_model.specs.declared.rows.Row.{Row}
 use Rattle.sat_model.specs.declared.steps.Step.{Step}
 use Rattle.sat_model.specs.declared.steps.Step.TheVariants.{Cut, Split, Outside, Inside, Edge}
 use Rattle.grid_model.specs.Boxes.{GridBox, Side, side_holds, box_holds, IsSideInside, IsInside}
-use Rattle.sat_model.specs.BoxTests.{BoxTest, test_in}
-use Rattle.sat_model.specs.Cover.{KeepsClock, SomeKeeps, IsPossibleByAll, numbers_from, Covers, AreSureInside, AreSureFrom, EpochCover, BlockCover, BlocksCover, RowCover}
+use Rattle.sat_model.specs.BoxTests.{BoxTest}
+use Rattle.sat_model.specs.Cover.{KeepsClock, SomeKeeps, IsPossibleByAll, numbers_from, Covers, AreSureInside, AreSureFrom, EpochCover}
 use Rattle.sat_model.specs.Events.{Event, Made, Renewed, RowsOver, rows_over, steps_in, renewals_in}
 use Rattle.sat_model.specs.Fitting.{IsPossible, AllBut}
 use Rattle.sat_model.specs.Fold.{slab_of_cut, boxes_after, ShownStep, taken_by, pieces_from, pieces}
-use Rattle.sat_model.specs.Logs.{Body, Block, LogValue}
-use Rattle.sat_model.specs.Renewals.{LineFact, AnyLine, LinesPass}
+use Rattle.sat_model.specs.Renewals.{LineFact, LinesPass}
+use Rattle.sat_model.specs.ShownBounds.{rows_behind}
 use Rattle.sat_model.specs.Stages.{Stage, first_stage, after}
-use Rattle.sat_model.specs.Verdicts.{StepPasses, EventsPass, BodyPasses, BlocksPass, Judged}
+use Rattle.sat_model.specs.Verdicts.{StepPasses, EventsPass}
 use Rattle.grid_model.proofs.PointLemmas.{in_box, side_in, le_to}
 use Rattle.sat_model.proofs.BoxTestLemmas.{nothing_fits}
 use Rattle.sat_model.proofs.FittingLemmas.{relaxed_of_possible, sure_of_inner}
@@ -107,7 +107,7 @@ PossibleInEach q p b (some ∷ more) =
     (box_holds some.part p ≡ true → AllBut q (IsPossible p b) some.rows) × PossibleInEach q p b more
 
 -- what is so of all numbers but at most q is so of the rows in these places
-by_numbers : (Fact : ℕ → Type 0) (q : ℕ) (Meets : Row → Type 0) (rows : List Row) (from n : ℕ)
+pub by_numbers : (Fact : ℕ → Type 0) (q : ℕ) (Meets : Row → Type 0) (rows : List Row) (from n : ℕ)
     → length rows ≤ n
     → ((i : ℕ) (row : Row) → Fact (from + i) → slice_get rows i ≡ Some row → Meets row)
     → AllBut q Fact (numbers_from from n) → AllBut q Meets rows
@@ -152,6 +152,15 @@ module _ (Meets : LineFact) (first : RowsOver) (rules : Rules) (done : ℕ) wher
   lines_fit j i (row ∷ rows) h le =
       let here = slice_get_within (map (λ (own : Row). own.sat) first.rows) i row.sat h.0.0 in
       omega (arith, lines_fit j (suc i) rows h.1 (omega (arith, here, length-map first.rows (λ (own : Row). own.sat))))
+
+  -- so there are no more rows in use than first ones
+  pub rows_fit : (j : ℕ) (stage : Stage) (events : List Event) (rows : RowsOver)
+      → EventsPass Meets first rules done j stage events → length rows.rows ≤ length first.rows
+      → length (rows_behind rows events).rows ≤ length first.rows
+  rows_fit j stage [] rows h few = few
+  rows_fit j stage (Made step ∷ events) rows h few = rows_fit j (after stage (Made step)) events rows h.1 few
+  rows_fit j stage (Renewed new ∷ events) rows h few =
+      rows_fit (suc j) (after stage (Renewed new)) events new h.1 (omega (arith, lines_fit j 0 new.rows h.0.lines (omega arith)))
 
   -- where all satellites but at most q are possible, so are the rows of each renewal
   each_from : (Fact : ℕ → Type 0) (q j : ℕ) (stage : Stage) (events : List Event) (p : Pos) (b : ℤ)
@@ -207,7 +216,7 @@ sure_from Meets first rules done j stage (Made step ∷ events) h =
 sure_from Meets first rules done j stage (Renewed new ∷ events) h =
     sure_from Meets first rules done (suc j) (after stage (Renewed new)) events h.1
 
--- ---- an epoch, and a log
+-- ---- an epoch
 
 pub epoch_cover : (Meets : LineFact) (rules : Rules) (done : ℕ) (test : BoxTest) (root : GridBox) (events : List Event)
     → EventsPass Meets (rows_over root test.rows) rules done 0 (first_stage test root) events
@@ -217,16 +226,3 @@ epoch_cover Meets rules done test root events h = record {
   covers = covers Meets rules done test root events h;
   sure = sure_from Meets (rows_over root test.rows) rules done 0 (first_stage test root) events h;
 }
-
-block_cover : (rules : Rules) (block : Block) (body : Option Body) → BodyPasses rules block body
-    → BlockCover rules.outliers block body
-block_cover rules block None h = tt
-block_cover rules block (Some body) h = epoch_cover AnyLine rules body.done (test_in rules block) body.root body.events h
-
-blocks_cover : (rules : Rules) (before : Option ℕ) (blocks : List Block)
-    → BlocksPass rules before blocks → BlocksCover rules.outliers blocks
-blocks_cover rules before [] h = tt
-blocks_cover rules before (block ∷ more) h = (block_cover rules block block.body h.0.body, blocks_cover rules (Some block.index) more h.1)
-
-pub row_cover : (log : LogValue) → Judged log → RowCover log
-row_cover log h = blocks_cover log.rules None log.blocks h

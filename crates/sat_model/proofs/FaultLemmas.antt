@@ -11,11 +11,13 @@ use Rattle.grid_model.specs.Boxes.{GridBox}
 use Rattle.sat_model.specs.BoxTests.{test_in, IsEmpty, IsInner, HoldsHull}
 use Rattle.sat_model.specs.Events.{Event, Made, Renewed, RowsOver}
 use Rattle.sat_model.specs.Fold.{Subpaving, IsLive}
+use Rattle.sat_model.specs.Bounds.{BoundValue}
 use Rattle.sat_model.specs.Logs.{Body, Block, LogValue, first_rows}
 use Rattle.sat_model.specs.Renewals.{LineTests, no_tests, LineFails, LinesFail, RenewalFails}
+use Rattle.sat_model.specs.ShownBounds.{IsFirstUnshown}
 use Rattle.sat_model.specs.Stages.{Stage, first_stage, after}
 use Rattle.sat_model.specs.Verdicts.{IsLong, CutsEmptySlab, LiveFails, NotLive, StepFails, DoneFails, EventsFail, BodyFailsBy, HeadFails, IsFirstRepeat, BlockFails, BlocksFail, FirstFault}
-use Rattle.sat_model.proofs.VerdictLemmas.{not_gone, not_failing, step_not_both, AreExclusive, nothing_exclusive, line_not_both, renewal_not_both, head_not_both, block_not_both}
+use Rattle.sat_model.proofs.VerdictLemmas.{not_gone, not_failing, step_not_both, AreExclusive, nothing_exclusive, line_not_both, renewal_not_both, events_not_both, head_not_both, block_not_both}
 
 -- ---- a step
 
@@ -146,6 +148,35 @@ module _ {Fault : Type 0} (tests : LineTests Fault) (Same : Fault → Fault → 
       let same = one_in_events rules done (suc j) (after stage (Renewed new)) events l f h g later late in
       (omega (arith, e, d, same.0), same.1)
 
+-- ---- a body
+
+one_unshown : (q : ℕ) (first : RowsOver) (events : List Event) (bounds : List BoundValue) (k m : ℕ)
+    → IsFirstUnshown q first events bounds k → IsFirstUnshown q first events bounds m → k ≡ m
+one_unshown q first events [] k m a b = absurd a
+one_unshown q first events (bound ∷ more) k m (inl a) (inl b) = a.1 ∙ sym b.1
+one_unshown q first events (bound ∷ more) k m (inl a) (inr b) = absurd (a.0 b.0)
+one_unshown q first events (bound ∷ more) k m (inr a) (inl b) = absurd (b.0 a.0)
+one_unshown q first events (bound ∷ more) k m (inr (shown, (i, e, later))) (inr (again, (j, f, late))) =
+    omega (arith, e, f, one_unshown q first events more i j later late)
+
+pub one_in_body : {Fault : Type 0} (tests : LineTests Fault) (Same : Fault → Fault → Type 0) → AreSharp tests Same
+    → (rules : Rules) (block : Block) (body : Body) (k : ℕ) (f : Fault) (m : ℕ) (g : Fault)
+    → BodyFailsBy tests rules block body k f → BodyFailsBy tests rules block body m g
+    → (k ≡ m) × Same f g
+one_in_body tests Same sharp rules block body k f m g (inl a) (inl b) =
+    one_in_events tests Same sharp (first_rows block body) rules body.done
+    0 (first_stage (test_in rules block) body.root) body.events k f m g a b
+one_in_body tests Same sharp rules block body k f m g (inl a) (inr b) =
+    absurd (events_not_both tests sharp.exclusive (first_rows block body) rules body.done
+    0 (first_stage (test_in rules block) body.root) body.events k f b.events a)
+one_in_body tests Same sharp rules block body k f m g (inr a) (inl b) =
+    absurd (events_not_both tests sharp.exclusive (first_rows block body) rules body.done
+    0 (first_stage (test_in rules block) body.root) body.events m g a.events b)
+one_in_body tests Same sharp rules block body k f m g (inr a) (inr b) = (
+  omega (arith, a.line, b.line, one_unshown rules.outliers (first_rows block body) body.events body.bounds a.m b.m a.unshown b.unshown),
+  sharp.told f g (a.number ∙ sym b.number) a.plain b.plain,
+)
+
 -- ---- a block, and the log
 
 one_head : (rules : Rules) (before : Option ℕ) (block : Block) (n m : ℕ)
@@ -181,8 +212,7 @@ one_in_block rules before block l n k m (inr (inr (passes, none, steps))) (inl (
 one_in_block rules before block l n k m (inr (inr (passes, none, steps))) (inr (inl (again, (j, other, line), f))) = absurd (none j other.repeats)
 one_in_block rules before block l n k m (inr (inr (passes, none, (body, i, paved, fails, at)))) (inr (inr (again, absent, (other, j, is, fail, line)))) =
     let from = subst (λ (c : Body). BodyFailsBy no_tests rules block c i n) (one_body block.body body other paved is) fails in
-    let same = one_in_events no_tests (λ a b. a ≡ b) nothing_sharp (first_rows block other) rules other.done
-    0 (first_stage (test_in rules block) other.root) other.events i n j m from fail in
+    let same = one_in_body no_tests (λ a b. a ≡ b) nothing_sharp rules block other i n j m from fail in
     (omega (arith, same.0), same.1)
 
 one_in_blocks : (rules : Rules) (before : Option ℕ) (blocks : List Block) (l n k m : ℕ)

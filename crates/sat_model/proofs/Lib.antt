@@ -13,3 +13,7 @@ pub mod PairFormLemmas
 pub mod PairLemmas
 pub mod BoxTestLemmas
 pub mod EventLemmas
+pub mod SumLemmas
+pub mod LawLemmas
+pub mod EpochLemmas
+pub mod BoundLemmas

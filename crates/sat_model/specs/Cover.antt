@@ -1,5 +1,5 @@
--- What a log claims of its epochs: its pieces partition the root, and its in and edge boxes cover
--- what fits.
+-- What a log claims of its epochs: its pieces partition the root, its in and edge boxes cover what
+-- fits, and its bounds hold it.
 use Rattle.std.specs.Prelude.{◌≡◌, ℕ, zero, suc, ◌+◌, ◌⊎◌, ℤ, ◌≤ℤ◌, Bool, true, cond, List, [], ◌∷◌}
 use Rattle.std.specs.Prelude.{length, Option, None, Some, count_by, slice_get}
 use Rattle.grid_model.specs.declared.boxes.Pos.{Pos}
@@ -7,9 +7,11 @@ use Rattle.sat_model.specs.declared.rows.Row.{Row}
 use Rattle.sat_model.specs.declared.steps.Step.{Step}
 use Rattle.sat_model.specs.declared.steps.Step.TheVariants.{Cut, Split, Outside, Inside, Edge}
 use Rattle.grid_model.specs.Boxes.{GridBox, box_holds}
+use Rattle.sat_model.specs.Bounds.{BoundValue}
 use Rattle.sat_model.specs.Events.{Event, Made, Renewed, RowsOver, steps_in, renewals_in}
 use Rattle.sat_model.specs.Fitting.{IsPossible, IsSure, AllBut}
 use Rattle.sat_model.specs.Fold.{Subpaving, first_boxes, boxes_after, ShownStep, taken_by, pieces}
+use Rattle.sat_model.specs.HalfSpaces.{IsInHalfSpace}
 use Rattle.sat_model.specs.Logs.{Body, Block, LogValue, first_rows}
 use Rattle.sat_model.specs.StepKinds.{is_kept_step}
 
@@ -87,9 +89,21 @@ pub record EpochCover (q : ℕ) (first : RowsOver) (events : List Event) : Type 
   pub covers : Covers q first (renewals_in events) (pieces first.part (steps_in events))
   pub sure : AreSureFrom q first.rows (first_boxes first.part) events
 
+-- what fits wherever all satellites but at most q are possible lies in each of these half-spaces
+abbrev pub AreBounding : ℕ → RowsOver → List RowsOver → List BoundValue → Type 0
+AreBounding q first renewals [] = Unit {0}
+AreBounding q first renewals (bound ∷ more) = ((p : Pos) (b : ℤ) → box_holds first.part p ≡ true →
+    AllBut q (IsPossibleByAll (first ∷ renewals) p b) (numbers_from 0 (length first.rows))
+    → IsInHalfSpace bound.half p) × AreBounding q first renewals more
+
+-- of an epoch with this body and these first rows
+pub record BodyCover (q : ℕ) (first : RowsOver) (body : Body) : Type 0 where
+  pub epoch : EpochCover q first body.events
+  pub bounded : AreBounding q first (renewals_in body.events) body.bounds
+
 abbrev pub BlockCover : ℕ → Block → Option Body → Type 0
 BlockCover q block None = Unit {0}
-BlockCover q block (Some body) = EpochCover q (first_rows block body) body.events
+BlockCover q block (Some body) = BodyCover q (first_rows block body) body
 
 abbrev pub BlocksCover : ℕ → List Block → Type 0
 BlocksCover q [] = Unit {0}

@@ -8,10 +8,14 @@ pub mod TightFaces
 pub mod Proposals
 pub mod Fold
 pub mod Events
+pub mod HalfSpaces
+pub mod Bounds
 pub mod Logs
 pub mod Waiting
-pub mod Verdicts
 pub mod StepKinds
+pub mod KeptHulls
+pub mod ShownBounds
+pub mod Verdicts
 pub mod Cover
 pub mod Pairs
 pub mod BoxTests

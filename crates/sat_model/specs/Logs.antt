@@ -8,14 +8,16 @@ use Rattle.gnss_model.specs.declared.satellites.Sat.{Sat}
 use Rattle.sat_model.specs.declared.rows.SatEntry.{SatEntry}
 use Rattle.sat_model.specs.declared.rows.SatEntry.TheVariants as entry
 use Rattle.grid_model.specs.Boxes.{GridBox}
+use Rattle.sat_model.specs.Bounds.{BoundValue, lines_of_bounds}
 use Rattle.sat_model.specs.Events.{Event, RowsOver, rows_over, lines_of_all}
 
 -- How an epoch was paved. The lines stand in this order: the root, the steps with the renewals
--- among them, and the number of splits.
+-- among them, the number of splits, and the bounds.
 pub record Body : Type 0 where
   pub root : GridBox
   pub events : List Event
   pub done : ℕ
+  pub bounds : List BoundValue
 
 -- The lines of a block stand in this order: its first line, the satellites, and the body.
 pub record Block : Type 0 where
@@ -30,7 +32,7 @@ pub record Block : Type 0 where
 abbrev pub is_few : Block → Bool
 is_few block = is_none block.body
 
--- version 1 is without renewals
+-- version 1 is without renewals, and versions 1 to 3 are without bounds
 pub record LogValue : Type 0 where
   pub version : ℕ
   pub rules : Rules
@@ -52,10 +54,10 @@ first_rows block body = rows_over body.root (rows_of block.sats)
 
 -- ---- the numbers of the lines
 
--- the root, the steps and renewals, and the number of splits
+-- the root, the steps and renewals, the number of splits, and the bounds
 abbrev pub lines_of_body : Option Body → ℕ
 lines_of_body None = 0
-lines_of_body (Some body) = 2 + lines_of_all body.events
+lines_of_body (Some body) = 2 + lines_of_all body.events + lines_of_bounds body.bounds
 
 -- the lines of a block
 abbrev pub lines_in : Block → ℕ

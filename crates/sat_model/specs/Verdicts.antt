@@ -7,12 +7,13 @@ use Rattle.sat_model.specs.declared.steps.Step.{Step}
 use Rattle.sat_model.specs.declared.steps.Step.TheVariants.{Cut, Split, Outside, Inside, Edge}
 use Rattle.grid_model.specs.Boxes.{GridBox, side_at}
 use Rattle.sat_model.specs.BoxTests.{BoxTest, test_in, IsEmpty, IsInner, HoldsHull}
-use Rattle.sat_model.specs.Events.{Event, Made, Renewed, RowsOver}
+use Rattle.sat_model.specs.Events.{Event, Made, Renewed, RowsOver, lines_of_all}
 use Rattle.sat_model.specs.Fold.{live_box, IsLive, NoneLive, IsProperCut, slab_of_cut}
 use Rattle.sat_model.specs.Stages.{Stage, first_stage, after}
 use Rattle.sat_model.specs.Logs.{Body, Block, LogValue, is_few, sat_of, rows_of, first_rows}
 use Rattle.sat_model.specs.Renewals.{LineFact, AnyLine, RenewalPasses, LineTests, no_tests}
 use Rattle.sat_model.specs.Renewals.{RenewalFails}
+use Rattle.sat_model.specs.ShownBounds.{AreBoundsShown, IsFirstUnshown}
 
 -- ---- the lines of steps
 
@@ -156,12 +157,25 @@ pub record IsFirstRepeat (sats : List SatEntry) (k : ℕ) : Type 0 where
 
 -- ---- the blocks
 
--- no line of the body fails a test, by the block's rows, where so much is asked of the lines of
--- renewals
-abbrev pub BodyPassesBy : LineFact → Rules → Block → Body → Type 0
-BodyPassesBy Meets rules block body =
-    EventsPass Meets (first_rows block body) rules body.done
-    0 (first_stage (test_in rules block) body.root) body.events
+-- No line of the body fails a test, by the block's rows, where so much is asked of the lines of
+-- renewals.
+pub record BodyPassesBy (Meets : LineFact) (rules : Rules) (block : Block) (body : Body)
+    : Type 0 where
+  pub events : EventsPass Meets (first_rows block body) rules body.done
+      0 (first_stage (test_in rules block) body.root) body.events
+  pub bounds : AreBoundsShown rules.outliers (first_rows block body) body.events body.bounds
+
+-- all lines up to that of the splits pass, and a bound behind them, whose line is k lines behind the
+-- root, is the first that isn't shown
+pub record BoundFailsBy {Fault : Type 0} (tests : LineTests Fault) (rules : Rules) (block : Block)
+    (body : Body) (k : ℕ) (fault : Fault) : Type 0 where
+  pub events : EventsPass tests.passes (first_rows block body) rules body.done
+      0 (first_stage (test_in rules block) body.root) body.events
+  pub m : ℕ
+  pub unshown : IsFirstUnshown rules.outliers (first_rows block body) body.events body.bounds m
+  pub line : k ≡ lines_of_all body.events + 1 + m
+  pub number : tests.number fault ≡ 66
+  pub plain : tests.plain fault
 
 -- the first line of it that fails is k lines behind the root
 abbrev pub BodyFailsBy : {Fault : Type 0} → LineTests Fault → Rules → Block → Body → ℕ → Fault
@@ -169,6 +183,7 @@ abbrev pub BodyFailsBy : {Fault : Type 0} → LineTests Fault → Rules → Bloc
 BodyFailsBy tests rules block body k fault =
     EventsFail tests (first_rows block body) rules body.done
     0 (first_stage (test_in rules block) body.root) body.events k fault
+    ⊎ BoundFailsBy tests rules block body k fault
 
 abbrev pub BodyPasses : Rules → Block → Option Body → Type 0
 BodyPasses rules block None = Unit {0}

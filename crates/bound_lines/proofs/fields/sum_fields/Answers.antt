@@ -2,8 +2,8 @@ use Rattle.std.proofs.Common.{◌≡◌, ℕ, ℤ, pos, List, [], ◌++◌, refl
 use Rattle.std.proofs.lemmas.Int.{ints}
 use Rattle.log_tokens.specs.Fields.{number_words}
 use Rattle.log_tokens.proofs.WordLemmas.{same_rest}
-use Rattle.row_sums.specs.declared.row_sums.Term.{Term}
-use Rattle.row_sums.specs.declared.row_sums.RowSum.{RowSum}
+use Rattle.sat_model.specs.declared.row_sums.Term.{Term}
+use Rattle.sat_model.specs.declared.row_sums.RowSum.{RowSum}
 use Rattle.bound_lines.specs.BoundLines.{term_words, sum_words}
 use Rattle.bound_lines.proofs.fields.sum_fields.Goals as goal
 

@@ -5,7 +5,7 @@ use Rattle.std.proofs.lemmas.Int.{ints, to_z-of_z}
 use mir.Val.{to_z, of_z}
 use Rattle.grid_model.specs.Sizes.{IsWithin}
 use Rattle.row_pairs.specs.FormValues.{form_value}
-use Rattle.row_sums.specs.HalfSpaces.{end_of}
+use Rattle.sat_model.specs.HalfSpaces.{end_of}
 use Rattle.row_sums.proofs.TotalLemmas.{sum_same, more_is, more_within, fits_sum64, fits_sum128}
 use Rattle.row_sums.proofs.adding.added.Goals as goal
 

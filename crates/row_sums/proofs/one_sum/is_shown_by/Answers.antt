@@ -3,8 +3,8 @@ use Rattle.std.specs.Prelude.{pos, All}
 use Rattle.std.proofs.lemmas.Int.{ints}
 use Rattle.grid_model.specs.Boxes.{grid_box}
 use Rattle.row_pairs.specs.FormValues.{form_value}
-use Rattle.row_sums.specs.declared.row_sums.Term.{Term}
-use Rattle.row_sums.specs.HalfSpaces.{SumValue, empty_sum, add_terms, terms_of, IsUsable, IsAbove}
+use Rattle.sat_model.specs.declared.row_sums.Term.{Term}
+use Rattle.sat_model.specs.HalfSpaces.{SumValue, empty_sum, add_terms, terms_of, IsUsable, IsAbove}
 use Rattle.row_sums.specs.SumValues.{sum_value}
 use Rattle.row_sums.proofs.one_sum.is_shown_by.Goals as goal
 

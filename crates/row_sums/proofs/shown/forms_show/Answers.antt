@@ -1,7 +1,7 @@
 use Rattle.std.proofs.Common.{◌≡◌, ℕ, Bool, true, false, List, Option, None, Some, refl}
 use Rattle.std.specs.Prelude.{is_some, not, IsNone, IfSome}
-use Rattle.row_sums.specs.declared.row_sums.RowSum.{RowSum}
-use Rattle.row_sums.specs.HalfSpaces.{SomeSurvive}
+use Rattle.sat_model.specs.declared.row_sums.RowSum.{RowSum}
+use Rattle.sat_model.specs.HalfSpaces.{SomeSurvive}
 use Rattle.row_sums.proofs.shown.forms_show.Goals as goal
 
 -- there is no choice of rows without which no sum survives

@@ -3,7 +3,7 @@ use Rattle.std.proofs.lemmas.Int.{to_z-of_z}
 use Rattle.std.proofs.lemmas.Option.{IfSome_then}
 use Rattle.row_pairs.specs.FormValues.{form_value}
 use Rattle.row_pairs.proofs.LeastLemmas.{not_both}
-use Rattle.row_sums.specs.HalfSpaces.{SumValue, add_form, add_terms}
+use Rattle.sat_model.specs.HalfSpaces.{SumValue, add_form, add_terms}
 use Rattle.row_sums.specs.SumValues.{sum_value}
 use Rattle.row_sums.proofs.TotalLemmas.{IsNext, not_there, not_usable, less_usable, more_usable, add_next}
 use Rattle.row_sums.proofs.totals.+total_from.Goals as goal

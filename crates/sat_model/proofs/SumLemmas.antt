@@ -9,8 +9,8 @@ use Rattle.grid_model.specs.Boxes.{GridBox, middle}
 use Rattle.grid_model.proofs.ProductLemmas.{mul_mono, mul_anti, distrib, add_mul, mul_assoc}
 use Rattle.sat_model.specs.Pairs.{scale, FormValue, tilt}
 use Rattle.sat_model.proofs.PairFormLemmas.{FormHolds}
-use Rattle.row_sums.specs.declared.row_sums.Term.{Term}
-use Rattle.row_sums.specs.HalfSpaces.{SumValue, empty_sum, end_of, add_form, add_terms, form_at, IsUsable, sum_tilt}
+use Rattle.sat_model.specs.declared.row_sums.Term.{Term}
+use Rattle.sat_model.specs.HalfSpaces.{SumValue, empty_sum, end_of, add_form, add_terms, form_at, IsUsable, sum_tilt}
 
 pub record SumHolds (s : SumValue) (part : GridBox) (p : Pos) (b : ℤ) : Type 0 where
   pub holds : ((s.multipliers *ℤ (pos scale *ℤ b)) +ℤ sum_tilt s part p) ≤ℤ s.most

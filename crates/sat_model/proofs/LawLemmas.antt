@@ -12,10 +12,10 @@ use Rattle.sat_model.specs.declared.rows.Row.{Row}
 use Rattle.sat_model.specs.Fitting.{IsPossible, AllBut}
 use Rattle.sat_model.specs.Pairs.{scale, FormValue, form_of}
 use Rattle.sat_model.proofs.PairFormLemmas.{FormHolds, form_holds}
-use Rattle.row_sums.specs.declared.half_spaces.HalfSpace.{HalfSpace}
-use Rattle.row_sums.specs.declared.row_sums.RowSum.{RowSum}
-use Rattle.row_sums.specs.HalfSpaces.{along, LiesIn, SumValue, empty_sum, add_terms, form_at, terms_of, sum_tilt, IsAbove, IsShownBy, ShowHalfSpace}
-use Rattle.row_sums.proofs.SumLemmas.{SumHolds, all_hold, none_hold}
+use Rattle.sat_model.specs.declared.half_spaces.HalfSpace.{HalfSpace}
+use Rattle.sat_model.specs.declared.row_sums.RowSum.{RowSum}
+use Rattle.sat_model.specs.HalfSpaces.{along, IsInHalfSpace, SumValue, empty_sum, add_terms, form_at, terms_of, sum_tilt, IsAbove, IsShownBy, ShowHalfSpace}
+use Rattle.sat_model.proofs.SumLemmas.{SumHolds, all_hold, none_hold}
 
 -- ---- which rows are left out
 
@@ -106,7 +106,7 @@ no_slack aim slack h =
 
 lies : (part : GridBox) (h : HalfSpace) (aim : ℕ) (s : SumValue) (p : Pos) (b : ℤ)
     → box_holds part p ≡ true → SumHolds s part p b → s.multipliers ≡ pos 0 → IsAbove part h aim s
-    → LiesIn h p
+    → IsInHalfSpace h p
 lies part h aim s p b i holds balanced above = by_lt_z h.most (along h p)
     (λ less. absurd (sum_atoms (s.multipliers *ℤ (pos scale *ℤ b)) (sum_tilt s part p) s.most (pos aim *ℤ ((h.most +ℤ pos 1) -ℤ along h p))
     (no_times s.multipliers (pos scale *ℤ b) balanced) holds.holds (above p i) (no_slack aim _ (short h.most (along h p) less))))
@@ -117,10 +117,10 @@ lies part h aim s p b i holds balanced above = by_lt_z h.most (along h p)
 
 -- ---- the law
 
-pub all_lies_in : (h : HalfSpace) (rows : List Row) (part : GridBox) (q : ℕ) (sums : List RowSum)
+pub all_in_half_space : (h : HalfSpace) (rows : List Row) (part : GridBox) (q : ℕ) (sums : List RowSum)
     → ShowHalfSpace rows part q h sums
-    → (p : Pos) (b : ℤ) → box_holds part p ≡ true → AllBut q (IsPossible p b) rows → LiesIn h p
-all_lies_in h rows part q sums show p b i fits =
+    → (p : Pos) (b : ℤ) → box_holds part p ≡ true → AllBut q (IsPossible p b) rows → IsInHalfSpace h p
+all_in_half_space h rows part q sums show p b i fits =
     let forms = map (form_of part) rows in
     let l = left_out q part p b rows (in_box part p i) fits in
     let found = show.survives l.out l.few in

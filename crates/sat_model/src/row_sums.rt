@@ -50,7 +50,7 @@ impl Default for RowSum {
 
 impl RowSum {
     ghost use Rattle.std.specs.Prelude.{◌≡◌};
-    ghost use Rattle.row_sums.specs.HalfSpaces.{terms_of};
+    ghost use Rattle.sat_model.specs.HalfSpaces.{terms_of};
 
     /// Its terms.
     pub fn terms(&self) -> [Term; 5]
