@@ -20,11 +20,14 @@ use Rattle.log_lines.specs.declared.line.LineName.TheVariants as name
 use Rattle.log_lines.specs.declared.line.LogLine.{LogLine}
 use Rattle.log_lines.specs.declared.line.LogLine.TheVariants as line
 use Rattle.log_tokens.specs.Words.{words}
-use Rattle.log_tokens.specs.Fields.{optional_words, span_words, IsSpanWithin, pos_words, IsPosWithin, sat_words, IsNamed, skip_words, SkipFits, IsTime}
+use Rattle.log_tokens.specs.Fields.{optional_words, span_words, IsSpanWithin, pos_words, IsPosWithin, sat_words, IsNamed, skip_words, SkipFits, IsTime, IsCountFromTo}
 use Rattle.log_lines.specs.Rows.{are_ends, sure_words, error_words, row_words, RowFits, entry_words, EntryFits, root_words, CornersFit}
 use Rattle.log_lines.specs.Lines.{spelled, name_of, fields, limits_words, header_words, HeaderFits, LineFits, line_words, line_text}
 use Rattle.log_tokens.proofs.TimeLemmas.{time_count}
 use Rattle.log_tokens.proofs.JoinedLemmas.{words-joined}
+use Rattle.sat_model.specs.declared.half_spaces.HalfSpace.{HalfSpace}
+use Rattle.bound_lines.specs.declared.bound_head.BoundHead.{BoundHead}
+use Rattle.bound_lines.proofs.ValueLemmas.{head_are, sum_are, bound_is, by_is}
 use Rattle.step_lines.specs.declared.names.StepName.{StepName}
 use Rattle.step_lines.specs.declared.names.StepName.TheVariants as kind
 use Rattle.step_lines.specs.Lines.{name_word}
@@ -91,8 +94,12 @@ entry_are (entry.Skipped sat skip) fits = words-on (sat_words sat) (skip_words s
 corners_are : (c : Corners) → CornersFit c → AreWords (root_words c)
 corners_are c fits = words-on (pos_words c.lo) (pos_words c.hi) (pos_are 10000000000000 c.lo (lit< tt) fits.lo_within) (pos_are 10000000000000 c.hi (lit< tt) fits.hi_within)
 
+-- the half-space and the number of sums of a bound's line
+abbrev pub head_of : (half : HalfSpace) (sums : ℕ) → IsCountFromTo 1 64 sums → BoundHead
+head_of half sums fits = record { half = half; sums = sums; some_sums = fits.0; few_sums = fits.1 }
+
 fields_are : (l : LogLine) → LineFits l → AreWords (fields l)
-fields_are (line.Version version) fits = (count_word 3 version (lit< tt) fits.1, tt)
+fields_are (line.Version version) fits = (count_word 4 version (lit< tt) fits.1, tt)
 fields_are (line.Rules r) fits = limits_are r
 fields_are (line.Few h) fits = header_are h fits
 fields_are (line.Epoch h) fits = header_are h fits
@@ -101,6 +108,8 @@ fields_are (line.Root c) fits = corners_are c fits
 fields_are (line.Step s) fits = step_are s fits
 fields_are (line.Renew c) fits = corners_are c fits
 fields_are (line.Done n) fits = (count_word 200000 n (lit< tt) fits.1, tt)
+fields_are (line.Bound half sums) fits = head_are (head_of half sums fits)
+fields_are (line.By sum) fits = sum_are sum
 
 name_is : (n : LineName) → IsWord (spelled n)
 name_is name.Gpscover = (lit< tt, (lit< tt, (lit< tt, (lit< tt, (lit< tt, (lit< tt, (lit< tt, (lit< tt, tt))))))))
@@ -113,6 +122,8 @@ name_is name.Root = (lit< tt, (lit< tt, (lit< tt, (lit< tt, tt))))
 name_is (name.Step n) = step_name_is n
 name_is name.Renew = (lit< tt, (lit< tt, (lit< tt, (lit< tt, (lit< tt, tt)))))
 name_is name.Done = (lit< tt, (lit< tt, (lit< tt, (lit< tt, tt))))
+name_is name.Bound = bound_is
+name_is name.By = by_is
 
 -- ---- names
 
@@ -145,6 +156,8 @@ same_name (name.Step m) name.Skip e = absurd (no_step m name.Skip tt e)
 same_name (name.Step m) name.Root e = absurd (no_step m name.Root tt e)
 same_name (name.Step m) name.Renew e = absurd (no_step m name.Renew tt e)
 same_name (name.Step m) name.Done e = absurd (no_step m name.Done tt e)
+same_name (name.Step m) name.Bound e = absurd (no_step m name.Bound tt e)
+same_name (name.Step m) name.By e = absurd (no_step m name.By tt e)
 same_name name.Gpscover (name.Step n) e = absurd (no_step n name.Gpscover tt (sym e))
 same_name name.Rules (name.Step n) e = absurd (no_step n name.Rules tt (sym e))
 same_name name.Few (name.Step n) e = absurd (no_step n name.Few tt (sym e))
@@ -154,6 +167,8 @@ same_name name.Skip (name.Step n) e = absurd (no_step n name.Skip tt (sym e))
 same_name name.Root (name.Step n) e = absurd (no_step n name.Root tt (sym e))
 same_name name.Renew (name.Step n) e = absurd (no_step n name.Renew tt (sym e))
 same_name name.Done (name.Step n) e = absurd (no_step n name.Done tt (sym e))
+same_name name.Bound (name.Step n) e = absurd (no_step n name.Bound tt (sym e))
+same_name name.By (name.Step n) e = absurd (no_step n name.By tt (sym e))
 same_name name.Gpscover name.Gpscover e = refl
 same_name name.Rules name.Rules e = refl
 same_name name.Few name.Few e = refl
@@ -163,6 +178,8 @@ same_name name.Skip name.Skip e = refl
 same_name name.Root name.Root e = refl
 same_name name.Renew name.Renew e = refl
 same_name name.Done name.Done e = refl
+same_name name.Bound name.Bound e = refl
+same_name name.By name.By e = refl
 same_name _ _ e = absurd (omega (arith, ap digest e))
 
 -- ---- lines

@@ -30,9 +30,12 @@ use Rattle.log_lines.specs.Lines.{limits_of, limits_words, header_words, HeaderF
 use Rattle.log_lines.specs.Order.{Leads}
 use Rattle.log_lines.specs.Fitting.{head_of}
 use Rattle.std.specs.List.{AllByRecursion}
-use Rattle.log_lines.proofs.SpellingLemmas.{same_name, line_some, same_line}
+use Rattle.log_lines.proofs.SpellingLemmas.{head_of as bound_head, same_name, line_some, same_line}
 use Rattle.log_lines.proofs.SureLemmas.{ends_from}
 use Rattle.log_tokens.proofs.NumberLemmas.{one_number}
+use Rattle.bound_lines.specs.BoundLines.{bound_words}
+use Rattle.bound_lines.specs.declared.bound_head.BoundHead.{BoundHead}
+use Rattle.bound_lines.proofs.ValueLemmas.{one_head, one_sum}
 use Rattle.step_lines.specs.Lines.{step_name}
 use Rattle.step_lines.specs.OneSpelling.{count_same, at_index, step_from}
 use Rattle.log_tokens.proofs.TimeLemmas.{time_count}
@@ -214,6 +217,8 @@ kind name.Root = 5
 kind (name.Step n) = 6
 kind name.Renew = 7
 kind name.Done = 8
+kind name.Bound = 9
+kind name.By = 10
 
 abbrev kind_of : LogLine → ℕ
 kind_of (line.Version version) = 0
@@ -225,6 +230,8 @@ kind_of (line.Root c) = 5
 kind_of (line.Step s) = 6
 kind_of (line.Renew c) = 7
 kind_of (line.Done n) = 8
+kind_of (line.Bound half sums) = 9
+kind_of (line.By sum) = 10
 
 kind_named : (l : LogLine) → kind (name_of l) ≡ kind_of l
 kind_named (line.Version version) = refl
@@ -237,13 +244,19 @@ kind_named (line.Root c) = refl
 kind_named (line.Step s) = refl
 kind_named (line.Renew c) = refl
 kind_named (line.Done n) = refl
+kind_named (line.Bound half sums) = refl
+kind_named (line.By sum) = refl
 
 same_kind : (l m : LogLine) → name_of l ≡ name_of m → kind_of l ≡ kind_of m
 same_kind l m name = sym (kind_named l) ∙ ap kind name ∙ kind_named m
 
+bound_from : (a b : BoundHead) → bound_words a ≡ bound_words b
+    → line.Bound a.half a.sums ≡ line.Bound b.half b.sums
+bound_from a b e = ap (λ (h : BoundHead). line.Bound h.half h.sums) (one_head a b e)
+
 line_from : (l m : LogLine) → LineFits l → LineFits m → name_of l ≡ name_of m → fields l ≡ fields m
     → l ≡ m
-line_from (line.Version m) (line.Version n) f g name e = ap line.Version (count_same 3 m n (lit< tt) f.1 g.1 (at_index 0 _ _ e))
+line_from (line.Version m) (line.Version n) f g name e = ap line.Version (count_same 4 m n (lit< tt) f.1 g.1 (at_index 0 _ _ e))
 line_from (line.Rules r) (line.Rules s) f g name e = ap line.Rules (limits_from r s e)
 line_from (line.Few h) (line.Few k) f g name e = ap line.Few (header_from h k f g e)
 line_from (line.Epoch h) (line.Epoch k) f g name e = ap line.Epoch (header_from h k f g e)
@@ -252,7 +265,15 @@ line_from (line.Root c) (line.Root d) f g name e = ap line.Root (corners_from c 
 line_from (line.Step s) (line.Step t) f g name e = let kind : step_name s ≡ step_name t = cc in ap line.Step (step_from s t f g kind e)
 line_from (line.Renew c) (line.Renew d) f g name e = ap line.Renew (corners_from c d f g e)
 line_from (line.Done m) (line.Done n) f g name e = ap line.Done (count_same 200000 m n (lit< tt) f.1 g.1 (at_index 0 _ _ e))
+line_from (line.Bound h m) (line.Bound k n) f g name e = bound_from (bound_head h m f) (bound_head k n g) e
+line_from (line.By s) (line.By t) f g name e = ap line.By (one_sum s t e)
 line_from l m f g name e = absurd (omega (arith, same_kind l m name))
+
+-- where the words are of no bound, no line of one has them
+pub no_bound : (words : List (List ℕ)) (l : LogLine) → LineFits l → name_of l ≡ name.Bound → words ≡ fields l
+    → ((h : BoundHead) → words ≡ bound_words h → ⊥) → ⊥
+no_bound words (line.Bound half sums) fits named told none = none (bound_head half sums fits) told
+no_bound words l fits named told none = absurd (omega (arith, kind_named l, ap kind named))
 
 -- lines that fit and have the same words are one
 pub same_words : (l m : LogLine) → LineFits l → LineFits m → line_words l ≡ line_words m → l ≡ m

@@ -12,6 +12,7 @@ use Rattle.log_lines.specs.declared.line.LogLine.{LogLine}
 use Rattle.log_lines.specs.declared.line.LogLine.TheVariants as line
 use Rattle.log_tokens.specs.Words.{joined}
 use Rattle.log_tokens.specs.Fields.{IsCountFromTo, IsTime}
+use Rattle.bound_lines.specs.BoundLines.{half_space_words, sum_words}
 use Rattle.step_lines.specs.Lines.{step_words, StepFits, name_word, step_name}
 use Rattle.log_lines.specs.Rows.{entry_words, EntryFits, root_words, CornersFit}
 
@@ -57,6 +58,8 @@ spelled name.Root = codes "root"
 spelled (name.Step n) = name_word n
 spelled name.Renew = codes "renew"
 spelled name.Done = codes "done"
+spelled name.Bound = codes "bound"
+spelled name.By = codes "by"
 
 abbrev pub entry_name : SatEntry → LineName
 entry_name (entry.Row r) = name.Sat
@@ -72,6 +75,8 @@ name_of (line.Root c) = name.Root
 name_of (line.Step s) = name.Step (step_name s)
 name_of (line.Renew c) = name.Renew
 name_of (line.Done n) = name.Done
+name_of (line.Bound half sums) = name.Bound
+name_of (line.By sum) = name.By
 
 abbrev pub fields : LogLine → List (List ℕ)
 fields (line.Version version) = decimal version ∷ []
@@ -83,9 +88,11 @@ fields (line.Root c) = root_words c
 fields (line.Step s) = step_words s
 fields (line.Renew c) = root_words c
 fields (line.Done n) = decimal n ∷ []
+fields (line.Bound half sums) = half_space_words half ++ decimal sums ∷ []
+fields (line.By sum) = sum_words sum
 
 abbrev pub LineFits : LogLine → Type 0
-LineFits (line.Version version) = IsCountFromTo 1 3 version
+LineFits (line.Version version) = IsCountFromTo 1 4 version
 LineFits (line.Rules l) = LimitsFit l
 LineFits (line.Few h) = HeaderFits h
 LineFits (line.Epoch h) = HeaderFits h
@@ -94,6 +101,8 @@ LineFits (line.Root c) = CornersFit c
 LineFits (line.Step s) = StepFits s
 LineFits (line.Renew c) = CornersFit c
 LineFits (line.Done n) = IsCountFromTo 0 200000 n
+LineFits (line.Bound half sums) = IsCountFromTo 1 64 sums
+LineFits (line.By sum) = Unit {0}
 
 abbrev pub line_words : LogLine → List (List ℕ)
 line_words l = spelled (name_of l) ∷ fields l

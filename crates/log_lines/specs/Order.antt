@@ -1,5 +1,6 @@
 -- Which lines may follow one another.
-use Rattle.std.specs.Prelude.{ℕ, ◌≡◌, ◌+◌, ◌-◌, Bool, true, false, ◌&&◌, if◌then◌else◌, nat_eq}
+use Rattle.std.specs.Prelude.{ℕ, ◌≡◌, ◌+◌, ◌-◌, Bool, true, false, ◌&&◌, ◌||◌}
+use Rattle.std.specs.Prelude.{if◌then◌else◌, nat_eq}
 use Rattle.std.specs.Prelude.{nat_lt, List, [], ◌∷◌, Option, None, Some}
 use Rattle.sat_model.specs.declared.rows.SatEntry.TheVariants as entry
 use Rattle.log_lines.specs.declared.line.Form.{Form}
@@ -8,6 +9,7 @@ use Rattle.log_lines.specs.declared.line.Kind.{Kind}
 use Rattle.log_lines.specs.declared.line.Kind.TheVariants as kind
 use Rattle.log_lines.specs.declared.line.LineName.{LineName}
 use Rattle.log_lines.specs.declared.line.LineName.TheVariants as name
+use Rattle.log_lines.specs.declared.line.LogForm.{LogForm}
 use Rattle.log_lines.specs.declared.line.LogLine.{LogLine}
 use Rattle.log_lines.specs.declared.line.LogLine.TheVariants as line
 use Rattle.log_lines.specs.declared.line.Place.{Place}
@@ -16,21 +18,29 @@ use Rattle.log_lines.specs.Lines.{LineFits}
 
 -- ---- the versions
 
--- In version 3 pairs of rows show boxes empty too, and in versions 1 and 2 they don't.
+-- In versions 3 and 4 pairs of rows show boxes empty too, and in versions 1 and 2 they don't.
 abbrev pub has_pairs : ℕ → Bool
-has_pairs version = nat_eq version 3
+has_pairs version = nat_lt 2 version
 
 -- in version 1 no rows are renewed
 abbrev pub may_renew : ℕ → Bool
 may_renew version = nat_lt 1 version
 
--- version 2 tells that rows may be renewed and no more, so no rows alone have it
+-- in version 4 there may be bounds
+abbrev pub may_bound : ℕ → Bool
+may_bound version = nat_lt 3 version
+
+-- Versions 2 and 4 tell that rows may be renewed and that there may be bounds, and no more, so no
+-- rows alone have them.
 abbrev pub has_version : Kind → ℕ → Bool
 has_version kind.Log version = true
-has_version kind.Rows version = if nat_eq version 2 then false else true
+has_version kind.Rows version = nat_eq version 1 || nat_eq version 3
+
+abbrev pub log_form : ℕ → LogForm
+log_form version = record { renews = may_renew version; bounds = may_bound version }
 
 abbrev pub form_of : Kind → ℕ → Form
-form_of kind.Log version = form.Log (may_renew version)
+form_of kind.Log version = form.Log (log_form version)
 form_of kind.Rows version = form.Rows
 
 -- ---- by the first word
@@ -47,10 +57,14 @@ may_come (place.Few f count) name.Skip = nat_lt count 64
 may_come (place.Satellites f n count) name.Sat = nat_lt count 64
 may_come (place.Satellites f n count) name.Skip = nat_lt count 64
 may_come (place.Satellites f n count) name.Root = true
-may_come (place.Steps renews n left) (name.Step kind) = nat_eq left 0
-may_come (place.Steps renews n left) name.Renew = renews && nat_eq left 0
-may_come (place.Steps renews n left) name.Done = nat_eq left 0
-may_come (place.Steps renews n left) name.Sat = nat_lt 0 left
+may_come (place.Steps f n left) (name.Step kind) = nat_eq left 0
+may_come (place.Steps f n left) name.Renew = f.renews && nat_eq left 0
+may_come (place.Steps f n left) name.Done = nat_eq left 0
+may_come (place.Steps f n left) name.Sat = nat_lt 0 left
+may_come (place.Bounds f left) name.Bound = nat_eq left 0
+may_come (place.Bounds f left) name.By = nat_lt 0 left
+may_come (place.Bounds f left) name.Epoch = nat_eq left 0
+may_come (place.Bounds f left) name.Few = nat_eq left 0
 may_come _ _ = false
 
 -- ---- by the whole line
@@ -61,11 +75,16 @@ only_if test after = if test then Some after else None
 
 -- the steps of a log stand behind its root, and the next block where there are no steps
 abbrev pub place_behind_root : Form → ℕ → Place
-place_behind_root (form.Log renews) n = place.Steps renews n 0
+place_behind_root (form.Log f) n = place.Steps f n 0
 place_behind_root form.Rows n = place.Between form.Rows
 
+-- the bounds stand behind the number of splits, and the next block where there may be none
+abbrev pub place_behind_done : LogForm → Place
+place_behind_done f = if f.bounds then place.Bounds f 0 else place.Between (form.Log f)
+
 -- The place behind a line, where the line may come. A block has at most 64 satellite lines before
--- its root. Behind the box of a renewal come as many rows as the block has usable satellites.
+-- its root. Behind the box of a renewal come as many rows as the block has usable satellites, and
+-- behind a bound as many sums as its line says.
 abbrev pub next : Place → LogLine → Option Place
 next (place.First k) (line.Version version) =
     only_if (has_version k version) (place.Second (form_of k version))
@@ -79,19 +98,24 @@ next (place.Few f count) (line.Sat (entry.Skipped sat skip)) =
 next (place.Satellites f n count) (line.Sat e) =
     only_if (nat_lt count 64) (place.Satellites f n (count + 1))
 next (place.Satellites f n count) (line.Root c) = Some (place_behind_root f n)
-next (place.Steps renews n left) (line.Step s) = only_if (nat_eq left 0) (place.Steps renews n 0)
-next (place.Steps renews n left) (line.Renew c) =
-    only_if (renews && nat_eq left 0) (place.Steps renews n n)
-next (place.Steps renews n left) (line.Sat (entry.Row row)) =
-    only_if (nat_lt 0 left) (place.Steps renews n (left - 1))
-next (place.Steps renews n left) (line.Done splits) =
-    only_if (nat_eq left 0) (place.Between (form.Log renews))
+next (place.Steps f n left) (line.Step s) = only_if (nat_eq left 0) (place.Steps f n 0)
+next (place.Steps f n left) (line.Renew c) =
+    only_if (f.renews && nat_eq left 0) (place.Steps f n n)
+next (place.Steps f n left) (line.Sat (entry.Row row)) =
+    only_if (nat_lt 0 left) (place.Steps f n (left - 1))
+next (place.Steps f n left) (line.Done splits) = only_if (nat_eq left 0) (place_behind_done f)
+next (place.Bounds f left) (line.Bound half sums) = only_if (nat_eq left 0) (place.Bounds f sums)
+next (place.Bounds f left) (line.By sum) = only_if (nat_lt 0 left) (place.Bounds f (left - 1))
+next (place.Bounds f left) (line.Epoch h) =
+    only_if (nat_eq left 0) (place.Satellites (form.Log f) h.n 0)
+next (place.Bounds f left) (line.Few h) = only_if (nat_eq left 0) (place.Few (form.Log f) 0)
 next _ _ = None
 
 -- the text may end here
 abbrev pub may_end : Place → Bool
 may_end (place.Between f) = true
 may_end (place.Few f count) = true
+may_end (place.Bounds f left) = nat_eq left 0
 may_end _ = false
 
 -- Each of the lines fits and may come behind the one before. They lead from one place to another.

@@ -6,6 +6,7 @@ use Rattle.sat_model.specs.declared.rules.Rules.{Rules}
 use Rattle.sat_model.specs.declared.rows.Row.{Row}
 use Rattle.sat_model.specs.declared.rows.SatEntry.{SatEntry}
 use Rattle.sat_model.specs.declared.rows.SatEntry.TheVariants as entry
+use Rattle.sat_model.specs.Bounds.{BoundValue}
 use Rattle.sat_model.specs.Events.{Event, Made, Renewed, renewals_in}
 use Rattle.sat_model.specs.Logs.{Body, Block, LogValue, is_few, IsNumbered}
 use Rattle.log_lines.specs.declared.line.Form.{Form}
@@ -39,17 +40,22 @@ abbrev pub event_lines : Event → List LogLine
 event_lines (Made step) = line.Step step ∷ []
 event_lines (Renewed new) = line.Renew (corners_of new.part) ∷ map row_line new.rows
 
--- What stands behind a root: the steps and renewals, and the number of splits. In the rows form
--- nothing does.
-abbrev pub closing_lines : Form → List Event → ℕ → List LogLine
-closing_lines (form.Log renews) events done = flat_map event_lines events ++ line.Done done ∷ []
-closing_lines form.Rows events done = []
+-- a bound has one line for its half-space, and one for each sum
+abbrev pub bound_lines : BoundValue → List LogLine
+bound_lines bound = line.Bound bound.half (length bound.sums) ∷ map line.By bound.sums
+
+-- What stands behind a root: the steps and renewals, the number of splits, and the bounds. In the
+-- rows form nothing does.
+abbrev pub closing_lines : Form → List Event → ℕ → List BoundValue → List LogLine
+closing_lines (form.Log f) events done bounds =
+    flat_map event_lines events ++ line.Done done ∷ flat_map bound_lines bounds
+closing_lines form.Rows events done bounds = []
 
 -- the root, where there is one, and what stands behind it
 abbrev pub paved_lines : Form → Option Body → List LogLine
 paved_lines f None = []
 paved_lines f (Some body) =
-    line.Root (corners_of body.root) ∷ closing_lines f body.events body.done
+    line.Root (corners_of body.root) ∷ closing_lines f body.events body.done body.bounds
 
 -- the lines of a block behind its first
 abbrev pub body_lines : Form → Block → List LogLine
@@ -83,17 +89,26 @@ EventFits renews n (Made step) = StepFits step
 EventFits renews n (Renewed new) = (renews ≡ true) × CornersFit (corners_of new.part)
     × (length new.rows ≡ n) × AllByRecursion RowFits new.rows
 
--- The steps and renewals and the number of splits behind a root. The rows form has none.
-abbrev pub ClosingFits : Form → ℕ → List Event → ℕ → Type 0
-ClosingFits (form.Log renews) n events done =
-    AllByRecursion (EventFits renews n) events × IsCountFromTo 0 200000 done
-ClosingFits form.Rows n events done = (events ≡ []) × (done ≡ 0)
+-- a bound has 1 to 64 sums
+abbrev pub BoundFits : BoundValue → Type 0
+BoundFits bound = IsCountFromTo 1 64 (length bound.sums)
+
+-- there is none where there may be none
+abbrev pub BoundsFit : Bool → List BoundValue → Type 0
+BoundsFit true bounds = AllByRecursion BoundFits bounds
+BoundsFit false bounds = bounds ≡ []
+
+-- The steps and renewals, the number of splits and the bounds behind a root. The rows form has none.
+abbrev pub ClosingFits : Form → ℕ → List Event → ℕ → List BoundValue → Type 0
+ClosingFits (form.Log f) n events done bounds = AllByRecursion (EventFits f.renews n) events
+    × IsCountFromTo 0 200000 done × BoundsFit f.bounds bounds
+ClosingFits form.Rows n events done bounds = (events ≡ []) × (done ≡ 0) × (bounds ≡ [])
 
 -- without a body a block is one of few satellites, and has skipped satellites alone
 abbrev pub BodyFits : Form → Block → Option Body → Type 0
 BodyFits f b None = AllByRecursion IsSkipped b.sats
 BodyFits f b (Some body) =
-    CornersFit (corners_of body.root) × ClosingFits f b.n body.events body.done
+    CornersFit (corners_of body.root) × ClosingFits f b.n body.events body.done body.bounds
 
 pub record BlockFits (f : Form) (b : Block) : Type 0 where
   pub header : HeaderFits (header_of b)
@@ -104,7 +119,7 @@ pub record BlockFits (f : Form) (b : Block) : Type 0 where
 -- The version tells what the rules say of pairs. All else that is asked of rules is kept by their
 -- type.
 pub record LogFits (k : Kind) (log : LogValue) : Type 0 where
-  pub version : IsCountFromTo 1 3 log.version
+  pub version : IsCountFromTo 1 4 log.version
   pub has_version : has_version k log.version ≡ true
   pub pairs : log.rules.pairs ≡ has_pairs log.version
   pub blocks : AllByRecursion (BlockFits (form_of k log.version)) log.blocks

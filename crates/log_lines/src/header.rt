@@ -37,7 +37,7 @@ pub fn rules(version: u8, limits: Limits) -> Rules
         outliers: limits.outliers,
         bisections: limits.bisections,
         width: limits.width,
-        pairs: version == 3,
+        pairs: 2 < version,
     }
 }
 

@@ -11,7 +11,9 @@ mod write;
 
 pub use header::rules;
 pub use limits::Limits;
-pub use line::{ClosingLine, Corners, Fault, Form, Header, Kind, LineName, LogLine, Place};
+pub use line::{
+    ClosingLine, Corners, Fault, Form, Header, Kind, LineName, LogForm, LogLine, Place,
+};
 pub use order::form_of;
 pub use reading::line_at;
 pub use step_lines::{Line, step_line};

@@ -2,7 +2,7 @@
 
 use crate::limits::Limits;
 use grid_model::Pos;
-use sat_model::{SatEntry, Step};
+use sat_model::{HalfSpace, RowSum, SatEntry, Step};
 use step_lines::StepName;
 
 /// The fields of the first line of a block.
@@ -23,8 +23,8 @@ pub struct Corners {
 /// A line.
 #[derive(Clone, Copy, Debug, PartialEq, Eq)]
 pub enum LogLine {
-    /// The version, which tells whether pairs of rows show boxes empty, and whether rows may be
-    /// renewed.
+    /// The version, which tells whether pairs of rows show boxes empty, whether rows may be renewed,
+    /// and whether there may be bounds.
     Version(u8),
     Rules(Limits),
     Few(Header),
@@ -35,9 +35,13 @@ pub enum LogLine {
     /// The box of a renewal.
     Renew(Corners),
     Done(u32),
+    /// A half-space that holds what fits, and how many sums of rows behind it show it.
+    Bound(HalfSpace, u8),
+    /// One of these sums.
+    By(RowSum),
 }
 
-/// A line behind the root of a log, but for those of renewed rows.
+/// A line behind the root of a log, up to that of the splits, but for those of renewed rows.
 #[derive(Clone, Copy, Debug, PartialEq, Eq)]
 pub enum ClosingLine {
     Step(Step),
@@ -60,6 +64,8 @@ pub enum LineName {
     Step(StepName),
     Renew,
     Done,
+    Bound,
+    By,
 }
 
 /// What is read: a log, or its rows alone.
@@ -69,11 +75,20 @@ pub enum Kind {
     Rows,
 }
 
-/// Which lines a text has: those of a log, in which rows may be renewed or may not, or those of its
-/// rows alone, where each block with a root ends with the line of the root.
+/// What a log may have behind a root, by its version.
+#[derive(Clone, Copy, Debug, PartialEq, Eq)]
+pub struct LogForm {
+    /// Whether rows may be renewed.
+    pub renews: bool,
+    /// Whether there may be bounds.
+    pub bounds: bool,
+}
+
+/// Which lines a text has: those of a log, or those of its rows alone, where each block with a root
+/// ends with the line of the root.
 #[derive(Clone, Copy, Debug, PartialEq, Eq)]
 pub enum Form {
-    Log { renews: bool },
+    Log(LogForm),
     Rows,
 }
 
@@ -90,9 +105,12 @@ pub enum Place {
     Satellites(Form, u32, usize),
     /// Behind so many satellite lines of a block of few satellites.
     Few(Form, usize),
-    /// Behind the root of a log: whether rows may be renewed, of how many satellites, and how many
-    /// rows of a renewal are still to come.
-    Steps(bool, u32, u32),
+    /// Behind the root of a log: of how many satellites rows are renewed, and how many rows of a
+    /// renewal are still to come.
+    Steps(LogForm, u32, u32),
+    /// Behind the number of splits where there may be bounds: how many sums of a bound are still to
+    /// come.
+    Bounds(LogForm, u32),
 }
 
 /// Why a line doesn't fit.

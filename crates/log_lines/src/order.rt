@@ -5,8 +5,9 @@ ghost use Rattle.log_lines.specs.declared.line.LineName.{LineName};
 ghost use Rattle.log_lines.specs.declared.line.Place.TheVariants as places;
 ghost use Rattle.log_lines.specs.Lines.{spelled};
 ghost use Rattle.log_lines.specs.Order.{has_version, form_of, may_come, next, place_behind_root};
+ghost use Rattle.log_lines.specs.Order.{place_behind_done};
 
-use crate::line::{Form, Kind, LineName, LogLine, Place};
+use crate::line::{Form, Kind, LineName, LogForm, LogLine, Place};
 use sat_model::SatEntry;
 use step_lines::StepName;
 
@@ -30,6 +31,8 @@ pub fn name_from(word: &[u8]) -> Option<LineName>
         b"edge" => Some(LineName::Step(StepName::Edge)),
         b"renew" => Some(LineName::Renew),
         b"done" => Some(LineName::Done),
+        b"bound" => Some(LineName::Bound),
+        b"by" => Some(LineName::By),
         _ => None,
     }
 }
@@ -46,8 +49,10 @@ pub fn may_come(place: Place, name: LineName) -> bool
         (Place::Few(_, count), LineName::Skip) => count < 64,
         (Place::Satellites(_, _, count), LineName::Sat | LineName::Skip) => count < 64,
         (Place::Steps(_, _, left), LineName::Step(_) | LineName::Done) => left == 0,
-        (Place::Steps(renews, _, left), LineName::Renew) => renews && left == 0,
+        (Place::Steps(form, _, left), LineName::Renew) => form.renews && left == 0,
         (Place::Steps(_, _, left), LineName::Sat) => 0 < left,
+        (Place::Bounds(_, left), LineName::Bound | LineName::Epoch | LineName::Few) => left == 0,
+        (Place::Bounds(_, left), LineName::By) => 0 < left,
         _ => false,
     }
 }
@@ -58,7 +63,7 @@ fn has_version(kind: Kind, version: u8) -> bool
 {
     match kind {
         Kind::Log => true,
-        Kind::Rows => version != 2,
+        Kind::Rows => version == 1 || version == 3,
     }
 }
 
@@ -67,9 +72,10 @@ pub fn form_of(kind: Kind, version: u8) -> Form
     ensures { result ≡ form_of kind version }
 {
     match kind {
-        Kind::Log => Form::Log {
+        Kind::Log => Form::Log(LogForm {
             renews: 1 < version,
-        },
+            bounds: 3 < version,
+        }),
         Kind::Rows => Form::Rows,
     }
 }
@@ -79,20 +85,46 @@ fn behind_root(form: Form, n: u32) -> Place
     ensures { result ≡ place_behind_root form n }
 {
     match form {
-        Form::Log { renews } => Place::Steps(renews, n, 0),
+        Form::Log(form) => Place::Steps(form, n, 0),
         Form::Rows => Place::Between(Form::Rows),
     }
 }
 
+/// The place behind the number of splits.
+fn behind_done(form: LogForm) -> Place
+    ensures { result ≡ place_behind_done form }
+{
+    if form.bounds {
+        Place::Bounds(form, 0)
+    } else {
+        Place::Between(Form::Log(form))
+    }
+}
+
 /// The place behind a line behind the root of a log, where the line may come.
-fn behind_steps(renews: bool, n: u32, left: u32, line: &LogLine) -> Option<Place>
-    ensures { result ≡ next (places.Steps renews n left) line.now }
+fn behind_steps(form: LogForm, n: u32, left: u32, line: &LogLine) -> Option<Place>
+    ensures { result ≡ next (places.Steps form n left) line.now }
 {
     match line {
-        LogLine::Step(_) if left == 0 => Some(Place::Steps(renews, n, 0)),
-        LogLine::Renew(_) if renews && left == 0 => Some(Place::Steps(renews, n, n)),
-        LogLine::Sat(SatEntry::Row(_)) if 0 < left => Some(Place::Steps(renews, n, left - 1)),
-        LogLine::Done(_) if left == 0 => Some(Place::Between(Form::Log { renews })),
+        LogLine::Step(_) if left == 0 => Some(Place::Steps(form, n, 0)),
+        LogLine::Renew(_) if form.renews && left == 0 => Some(Place::Steps(form, n, n)),
+        LogLine::Sat(SatEntry::Row(_)) if 0 < left => Some(Place::Steps(form, n, left - 1)),
+        LogLine::Done(_) if left == 0 => Some(behind_done(form)),
+        _ => None,
+    }
+}
+
+/// The place behind a line behind the splits of a log with bounds, where the line may come.
+fn behind_bounds(form: LogForm, left: u32, line: &LogLine) -> Option<Place>
+    ensures { result ≡ next (places.Bounds form left) line.now }
+{
+    match line {
+        LogLine::Bound(_, sums) if left == 0 => Some(Place::Bounds(form, u32::from(*sums))),
+        LogLine::By(_) if 0 < left => Some(Place::Bounds(form, left - 1)),
+        LogLine::Epoch(header) if left == 0 => {
+            Some(Place::Satellites(Form::Log(form), header.n, 0))
+        }
+        LogLine::Few(_) if left == 0 => Some(Place::Few(Form::Log(form), 0)),
         _ => None,
     }
 }
@@ -117,7 +149,8 @@ pub fn place_behind(place: Place, line: &LogLine) -> Option<Place>
             Some(Place::Satellites(form, n, count + 1))
         }
         (Place::Satellites(form, n, _), LogLine::Root(_)) => Some(behind_root(form, n)),
-        (Place::Steps(renews, n, left), _) => behind_steps(renews, n, left, line),
+        (Place::Steps(form, n, left), _) => behind_steps(form, n, left, line),
+        (Place::Bounds(form, left), _) => behind_bounds(form, left, line),
         _ => None,
     }
 }

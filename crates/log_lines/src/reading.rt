@@ -9,6 +9,7 @@ use crate::header::{header, limits};
 use crate::line::{Fault, LineName, LogLine, Place};
 use crate::order::{may_come, name_from, place_behind};
 use crate::rows::{root, row, skipped};
+use bound_lines::{bound_fields, sum_fields};
 use log_tokens::{Rest, count, is_ended, word};
 use sat_model::SatEntry;
 use step_lines::step_fields;
@@ -18,7 +19,7 @@ fn version(rest: Rest<'_>) -> Option<LogLine>
     ensures { Reads (λ l. LineFits l × (name_of l ≡ LineName.Gpscover)) fields
         (words_left rest.entry) result }
 {
-    let (version, rest) = count(rest, 1, 3)?;
+    let (version, rest) = count(rest, 1, 4)?;
     if !is_ended(rest) {
         return None;
     }
@@ -37,6 +38,15 @@ fn done(rest: Rest<'_>) -> Option<LogLine>
     Some(LogLine::Done(bisections))
 }
 
+/// The half-space of a bound, and the number of its sums.
+fn bound(rest: Rest<'_>) -> Option<LogLine>
+    ensures { Reads (λ l. LineFits l × (name_of l ≡ LineName.Bound)) fields
+        (words_left rest.entry) result }
+{
+    let head = bound_fields(rest)?;
+    Some(LogLine::Bound(head.half, head.sums))
+}
+
 /// The line whose first word is the name and whose other words are left.
 fn fields_of(name: LineName, rest: Rest<'_>) -> Option<LogLine>
     ensures { Reads (λ l. LineFits l × (name_of l ≡ name)) fields (words_left rest.entry) result }
@@ -52,6 +62,8 @@ fn fields_of(name: LineName, rest: Rest<'_>) -> Option<LogLine>
         LineName::Step(name) => Some(LogLine::Step(step_fields(name, rest)?)),
         LineName::Renew => Some(LogLine::Renew(root(rest)?)),
         LineName::Done => done(rest),
+        LineName::Bound => bound(rest),
+        LineName::By => Some(LogLine::By(sum_fields(rest)?)),
     }
 }
 
