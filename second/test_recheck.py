@@ -89,6 +89,47 @@ def selection_cases(folder):
     )
 
 
+def bound_cases(folder):
+    """(words, status and line) of the bound that docs/LOG.md works out, and of the changes that its table names."""
+    page = (TOP / "docs/LOG.md").read_text()
+    bound, by = re.search(r"```\n(bound [-0-9].*)\n(by [0-9].*)\n```", page).groups()
+    lines = ["gpscover 4", *(TOP / "examples/one-edge-box.log").read_text().splitlines()[1:]]
+    fifth = "sat G05 0 0 0 0 -20000000000000 -20000000000000 20000000000000 20000000000000 -500000 500000"
+    more = [lines[0], "rules 1 0 1000000", lines[2][:-1] + "5", *lines[3:7], fifth, *lines[7:]]
+    unshown = 1, "no 66 BoundNotShown line 11\n"
+    for number, (log, wanted) in enumerate((
+            ([*lines, bound, by], (0, "yes 1\n")),
+            ([*lines, bound.replace("1000003", "1000002"), by], unshown),
+            ([*lines, bound, by.replace("4194304", "4194303")], unshown),
+            ([*lines, bound, "by 4194304 0 -1 1 2 0 0 0 0 0 0"], unshown),
+            ([*lines, bound, "by 4194304 0 -1 1 1 4 0 0 0 0 0"], unshown),
+            ([*more, bound, by], (1, "no 66 BoundNotShown line 12\n")),
+            ([*lines, bound[:-1] + "2", by], (3, "log 40 BadLog line 13 kind 4\n")),
+            ([*lines, bound[:-1] + "0", by], (3, "log 40 BadLog line 11 kind 3\n")),
+            ([*lines, bound.replace("1000003", ""), by], (3, "log 40 BadLog line 11 kind 3\n")),
+            (["gpscover 3", *lines[1:], bound, by], (3, "log 40 BadLog line 11 kind 2\n")),
+            ([*lines[:-1], bound, by, lines[-1]], (3, "log 40 BadLog line 10 kind 2\n")))):
+        yield (written(folder, f"bound{number}.log", "\n".join([*log, ""])),), wanted
+
+
+def bound_values():
+    """(what, found, wanted) of sums of rows: which are left whichever rows are left out, and what they show."""
+    by = [[1, *(number for place in places for number in (place, 0))] for places in ([0, 1, 2, 2, 2], [2, 3, 3, 3, 3], [4] * 5)]
+    for sums, left_out, wanted in ((by, 0, True), (by, 1, True), (by, 2, False), (by, 8, False), (by[:2], 1, False),
+                                   (by[1:], 1, True), (by[:1], 0, True), (by[:1], 1, False), (by[:1], 8, False)):
+        yield f"{len(sums)} sums without {left_out}", recheck.sums_left(sums, left_out), wanted
+    # Twice x is at most 10 by these two, and the box reaches from -100 to 100.
+    forms, box = [([recheck.S, 0, 0], 10 * recheck.S, -10 * recheck.S), ([-recheck.S, 0, 0], 10 * recheck.S, 0)], [-100] * 3 + [100] * 3
+    two = [0, 1, 1, -1, 0, 0, 0, 0, 0, 0]
+    for aim, most, wanted in ((2 * recheck.S, 5, True), (2 * recheck.S, 4, False), (2 * recheck.S + 1, 5, True), (0, 5, False)):
+        yield f"aim {aim}", recheck.sum_shows(forms, box, [1, 0, 0, most, 1], [aim, *two]), wanted
+    for upper, wanted in (10**30, True), (10**30 + 1, False):
+        far = [*forms, ([0, 0, 0], upper, 0), ([0, 0, 0], 0, -upper)]
+        for place in 2, 3:
+            found = recheck.sum_shows(far, box, [1, 0, 0, 5, 1], [2 * recheck.S, *two[:-2], place, 0])
+            yield f"an end of {upper} at place {place}", found, wanted
+
+
 def wrong_word_cases():
     """(words, status and line) of wrong command lines."""
     options = [("--from", number) for number in ("0", "02", "+2", "-2", "2.0", "200001", "x", "")]
@@ -426,10 +467,10 @@ def pair_cases(folder):
                 log = written(folder, f"pairs{number}.{version}.log", pair_log(outliers, rows, steps, version))
                 yield (log,), told if isinstance(told, tuple) else (int(told[:2] == "no"), told)
     few = "gpscover 3\nrules 1 0 1000000\nfew 1 0 0\n"
-    for number, head in enumerate(("gpscover 4", "gpscover 02", "gpscover 03", "gpscover 3 ", "gpscover 13", "gpscover")):
+    for number, head in enumerate(("gpscover 5", "gpscover 02", "gpscover 03", "gpscover 3 ", "gpscover 13", "gpscover")):
         refused = 3, "log 40 BadLog line 1 kind 1\n"
         yield (written(folder, f"head{number}.log", few.replace("gpscover 3", head)),), refused
-    for version in 2, 3:
+    for version in 2, 3, 4:
         yield (written(folder, f"head.{version}.log", few.replace("gpscover 3", f"gpscover {version}")),), yes
 
 
@@ -437,7 +478,7 @@ def pair_settings_cases(folder):
     """(words, status and line) of the key `search.pairs`, against the first line of a log."""
     plain = "gpscover 1\nrules 1 4096 1000000\nfew 1 1388620800070000000000 1\nskip G02 1\n"
     logs = {version: written(folder, f"first{version}.log", plain.replace("gpscover 1", f"gpscover {version}"))
-            for version in (1, 2, 3)}
+            for version in (1, 2, 3, 4)}
     differs, yes = (1, "no 50 RulesDiffer line 2\n"), YES_0
     for number, (line, version, wanted) in enumerate((
             ("", 2, yes), ("pairs = true", 2, differs), ("renew = true", 1, yes), ("renew = true", 2, yes),
@@ -447,7 +488,9 @@ def pair_settings_cases(folder):
             ("pairs = 1\nrenew = 1", 1, "32 WrongKind search.renew"), ("renews = true", 1, "34 Unknown search.renews"),
             ("[motion]\nrenew = true\n[search]", 1, "30 NotToml"),
             ("", 1, yes), ("", 3, differs), ("pairs = false", 1, yes), ("pairs = false", 3, differs),
-            ("pairs = true", 1, differs), ("pairs = true", 3, yes),
+            ("pairs = true", 1, differs), ("pairs = true", 3, yes), ("pairs = true", 4, yes),
+            ("", 4, differs), ("pairs = false", 4, differs), ("renew = true", 4, differs),
+            ("renew = true\npairs = true", 4, yes),
             ("pairs = 1", 1, "32 WrongKind search.pairs"), ('pairs = "true"', 1, "32 WrongKind search.pairs"),
             ("pairs = [true]", 1, "32 WrongKind search.pairs"), ("pair = true", 1, "34 Unknown search.pair"))):
         settings = SETTINGS.replace("max_age = 7200\n", f"max_age = 7200\n{line}\n")
@@ -992,7 +1035,7 @@ def station_row_cases(folder):
 
 # The folder goes with the tests' process.
 ROOM = tempfile.TemporaryDirectory()
-WORDS = (verdict_cases, sure_cases, zenith_cases, mapped_cases, pair_cases, pair_settings_cases, track_cases, speed_cases,
+WORDS = (verdict_cases, bound_cases, sure_cases, zenith_cases, mapped_cases, pair_cases, pair_settings_cases, track_cases, speed_cases,
          selection_cases, station_skip_cases, station_file_cases, station_row_cases)
 VALUES = value_cases, tube_values
 
@@ -1025,7 +1068,7 @@ def test_the_program_says(program, words, wanted):
     expect(program_verdict(program, words), wanted)
 
 
-@pytest.mark.parametrize("what, found, wanted", [*named(VALUES, ROOM.name), *named([both_values])])
+@pytest.mark.parametrize("what, found, wanted", [*named(VALUES, ROOM.name), *named([both_values, bound_values])])
 def test_a_value(what, found, wanted):
     assert found == wanted, what
 
