@@ -1,11 +1,23 @@
 """Logs of steps that were counted by hand, and logs that are none."""
 
-import pytest
-from made_logs import HEAD, PAVED, RENEWED, epoch_of, epochs_of
+import math
 
-from gpscover import Error
+import pytest
+from made_logs import HEAD, PAVED, RENEWED, ended_with, epoch_of, epochs_of, written
+
+from gpscover import Bound, Error, RowSum, export, page, summary
 from gpscover.log import calendar
 from gpscover.log import epochs as read_epochs
+
+BOUNDED = HEAD.replace("gpscover 1", "gpscover 4")
+# North up to 50 m by two sums, and the whole of space by one.
+BOUNDS = (
+    "bound 0 0 1000000 50000000000000 2\n"
+    "by 17179869184 4 -1048576 0 1048575 2 1 2 0 2 0\n"
+    "by 0 3 0 3 0 3 0 3 0 3 0\n"
+    "bound 0 0 0 0 1\n"
+    "by 1 0 0 0 0 0 0 0 0 0 0\n"
+)
 
 
 class TestLogs:
@@ -18,9 +30,9 @@ class TestLogs:
         assert (epoch.outs, epoch.splits, epoch.outliers) == (1, 2, 1)
 
     def test_all_versions_are_read(self):
-        for version in "23":
+        for version in "234":
             assert epochs_of(PAVED) == epochs_of(PAVED, HEAD.replace("gpscover 1", f"gpscover {version}"))
-        for first in "gpscover 0", "gpscover 4", "gpscover 3 ", "gpscover 02", "gpscover":
+        for first in "gpscover 0", "gpscover 5", "gpscover 4 ", "gpscover 02", "gpscover":
             with pytest.raises(Error, match="line 1: this isn't a log"):
                 epochs_of(PAVED, HEAD.replace("gpscover 1", first))
 
@@ -93,6 +105,80 @@ class TestLogs:
         for count in range(11, 16):
             with pytest.raises(Error, match=f"ends within an epoch, at line {count}"):
                 epochs_of("".join(lines[2:count]), "".join(lines[:2]))
+
+    def test_bounds_stand_behind_the_steps(self):
+        later = PAVED.replace("epoch 1", "epoch 2")
+        few = "few 3 895816779999000000000 3\n"
+        one, two, three = epochs_of(PAVED + BOUNDS + later + BOUNDS.replace("50000000000000", "-7") + few, BOUNDED)
+        terms = (4, -1048576), (0, 1048575), (2, 1), (2, 0), (2, 0)
+        north = Bound((0, 0, 1000000), 50000000000000, [RowSum(17179869184, terms), RowSum(0, ((3, 0),) * 5)])
+        space = Bound((0, 0, 0), 0, [RowSum(1, ((0, 0),) * 5)])
+        assert one.bounds == [north, space]
+        assert [bound.most for bound in two.bounds] == [-7, 0]
+        assert (three.index, three.bounds) == (3, [])
+        assert (one.kept, two.kept) == (epoch_of(PAVED).kept,) * 2
+
+    def test_a_bound_reaches_as_far_as_its_half_space(self):
+        for direction, most, point, reach in (
+            ((0, 0, 1000000), 50000000000000, (9e6, -9e6, 0.0), 50),
+            ((0, 0, -1000000), 50000000000000, (9e6, -9e6, 0.0), 50),
+            ((0, 0, 1000000), 50000000000000, (0, 0, 50.25), -0.25),
+            # 3 x + 4 y is at most 10 m there, so 2 m along a direction of that length; a um less is told too.
+            ((3, 4, 0), 10000000, (0, 0, 7), 2),
+            ((3, 4, 0), 10000000, (6378137, -4783602.75, 0), 2),
+            ((1000000, 0, 0), 6378137000001000000, (6378137, 0, 0), 1e-6),
+            ((0, 0, 0), 0, (1, 2, 3), math.inf),
+            ((0, 0, 0), -1, (1, 2, 3), -math.inf),
+        ):
+            assert Bound(direction, most, []).reach(point) == pytest.approx(reach, abs=1e-12)
+
+    def test_bounds_that_are_none(self):
+        head, by = BOUNDS.splitlines(keepends=True)[:2]
+        bound = head.replace("2\n", "1\n")
+        behind = 2 + PAVED.count("\n")
+        for more, line in (
+            (by, 1),
+            (bound + bound + by, 2),
+            (bound + by + by, 3),
+            (head + by + "done 2\n", 3),
+            (head + by + "few 2 0 0\n", 3),
+            (bound.replace(" 1\n", " 0\n"), 1),
+            (bound.replace(" 1\n", " 65\n") + by * 65, 1),
+            (bound.replace(" 1\n", "\n") + by, 1),
+            (bound.replace("1000000", "x") + by, 1),
+            (bound + by[:-1] + " 0\n", 2),
+            (bound + by.replace(" 2 0\n", "\n"), 2),
+            (bound + "by 1 0 0 0 0 0 0 0 0 0 x\n", 2),
+        ):
+            with pytest.raises(Error, match=f"line {behind + line}: this isn't a log"):
+                epochs_of(PAVED + more, BOUNDED)
+        for head_line in HEAD, HEAD.replace("gpscover 1", "gpscover 3"):
+            with pytest.raises(Error, match=f"line {behind + 1}: this isn't a log"):
+                epochs_of(PAVED + BOUNDS, head_line)
+        with pytest.raises(Error, match=f"line {behind}: this isn't a log"):
+            epochs_of(PAVED.replace("done", bound + by + "done"), BOUNDED)
+        for more, count in (bound, 1), (head + by, 2), (bound + by[:-1], 2):
+            with pytest.raises(Error, match=f"ends within an epoch, at line {behind + count}"):
+                epochs_of(PAVED + more, BOUNDED)
+
+    def test_what_reads_logs_reads_those_with_bounds(self):
+        for module, *options in (
+            (summary,),
+            (summary, "--csv"),
+            (export, "out.csv"),
+            (export, "out.geojson"),
+            (export, "out.kml"),
+            (page, "out.html"),
+        ):
+            said = []
+            for text in HEAD + PAVED, BOUNDED + PAVED + BOUNDS:
+                with written(log=text) as (path,):
+                    files = [path.parent / name if name[0] == "o" else name for name in options]
+                    status, out, err = ended_with(module, path, *files)
+                    made = [file.read_text() for file in path.parent.glob("out*")]
+                    said.append([status, *(it.replace(str(path.parent), "") for it in (out, err, *made))])
+            assert said[0][0] == 0
+            assert said[0] == said[1]
 
     def test_what_is_no_log_is_refused_at_its_line(self):
         wrong = {

@@ -182,5 +182,5 @@ class TestWrapper:
             for path in (os.environ["PATH"], self.bare(room)):
                 project, logs, kit = self.said("--version", path).splitlines()
                 assert re.search(r"^gpscover (unreleased|[0-9.]+)", project)
-                assert logs == "logs of the versions 1, 2, 3"
+                assert logs == "logs of the versions 1, 2, 3, 4"
                 assert re.search(r"^(released: |built here: |not built)", kit)

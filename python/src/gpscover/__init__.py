@@ -4,7 +4,8 @@
 """
 
 from gpscover.errors import Error, LogError, NumberError
-from gpscover.log import Box, Epoch, Interval, Kept, Log, Renewal, Row, Rules, Skip, SkipReason, open_log
+from gpscover.log import Bound, Box, Epoch, Interval, Kept, Log, Renewal, Row, RowSum, Rules, Skip, SkipReason, Term
+from gpscover.log import open_log
 from gpscover.region import Region, region_of
 from gpscover.runs import ProgramError, Refused, Report, Verdict
 from gpscover.runs import check, guard, judge, progress_bar, retrack, solve, track
@@ -12,6 +13,7 @@ from gpscover.settings import Settings, Station
 from gpscover.zones import Corners, Prism, Reach, read_zones
 
 __all__ = ["Error", "LogError", "NumberError", "ProgramError", "Refused"]
-__all__ += ["Box", "Epoch", "Interval", "Kept", "Log", "Renewal", "Row", "Rules", "Skip", "SkipReason", "open_log"]
+__all__ += ["Bound", "Box", "Epoch", "Interval", "Kept", "Log", "Renewal", "Row", "RowSum", "Rules"]
+__all__ += ["Skip", "SkipReason", "Term", "open_log"]
 __all__ += ["Corners", "Prism", "Reach", "read_zones", "Region", "region_of", "Settings", "Station"]
 __all__ += ["Report", "Verdict", "check", "guard", "judge", "progress_bar", "retrack", "solve", "track"]

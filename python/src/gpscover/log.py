@@ -15,6 +15,7 @@ little memory. It is read as it stands: whether it is right is what `gpscover ch
 from __future__ import annotations
 
 import datetime
+import math
 import os
 import re
 from collections.abc import Iterator
@@ -35,15 +36,16 @@ PS_PER_MS = 1_000_000_000
 PS_PER_US = 1_000_000
 GPS_EPOCH = datetime.datetime(1980, 1, 6)
 
-# The first line of a log. By the third one, pairs of satellites may show a box empty too. Behind
-# all but the first one rows may be renewed.
-HEADS = "gpscover 1", "gpscover 2", "gpscover 3"
+# The first line of a log. By the last two, pairs of satellites may show a box empty too. Behind
+# all but the first one rows may be renewed, and behind the last one epochs may have bounds.
+HEADS = "gpscover 1", "gpscover 2", "gpscover 3", "gpscover 4"
 LATEST_PS = 4 * 10**21  # times of a log lie before it
 LONGEST = 24  # characters of a number of a log, few enough to be a floating-point number too
 SATELLITE = re.compile("[GE][0-9]{2}")
 AXES = {"0": 0, "1": 1, "2": 2}
 END_OF_FACE = {"0": 0, "1": 3, "2": 1, "3": 4, "4": 2, "5": 5}  # which end of a box a face is
 CLOSING = {"out": 1, "edge": 3, "in": 4}  # lines that close a box, and how many numbers each has
+MOST_SUMS = 64  # of a bound
 
 
 class SkipReason(str, Enum):
@@ -192,6 +194,44 @@ class Kept:
     rows: list[Row]  # those in use where it was closed: the epoch's own list, or a renewal's
 
 
+class Term(NamedTuple):
+    """A row in a sum: its place among those of the bounds, from 0, and how many times it is taken."""
+
+    place: int
+    times: int
+
+
+class RowSum(NamedTuple):
+    """A sum of rows that shows a bound while none of them is left out.
+
+    The bound's direction is in it `aim` times.
+    """
+
+    aim: int
+    terms: tuple[Term, ...]
+
+
+@dataclass(slots=True)
+class Bound:
+    """A half-space that holds what fits.
+
+    The points x, y, z in um whose product with `direction` is at most `most`.
+    """
+
+    direction: tuple[int, int, int]
+    most: int
+    sums: list[RowSum]
+
+    def reach(self, point: Point) -> float:
+        """How many metres along the direction what fits may lie beyond a point x, y, z in metres.
+
+        The point is taken to the nearest um. Below zero where the point is outside.
+        """
+        left = self.most - sum(part * round(at * UM_PER_M) for part, at in zip(self.direction, point))
+        length = math.hypot(*self.direction)
+        return left / length / UM_PER_M if length else math.copysign(math.inf, left)
+
+
 @dataclass(slots=True)
 class Epoch:
     """A block of a log. A few block has no rows, no root and no boxes; one without is empty.
@@ -211,6 +251,7 @@ class Epoch:
     kept        the boxes where a position may fit
     outs        how many `out` lines there are
     splits      how many boxes were split
+    bounds      half-spaces that hold what fits
     """
 
     index: int
@@ -227,6 +268,7 @@ class Epoch:
     kept: list[Kept] = field(default_factory=list)
     outs: int = 0
     splits: int = 0
+    bounds: list[Bound] = field(default_factory=list)
 
     @property
     def time(self) -> datetime.datetime:
@@ -304,6 +346,14 @@ def skip_of(words: list[str]) -> Skip:
     return Skip(satellite_of(words[1]), reason, words[3] if len(words) > 3 else "")
 
 
+def sum_of(words: list[str]) -> RowSum:
+    """The sum of a `by` line."""
+    aim, *numbers = wholes(words[1:], 11)
+    if words[0] != "by":
+        raise ValueError
+    return RowSum(aim, tuple(map(Term._make, zip(numbers[::2], numbers[1::2]))))
+
+
 def next_words(lines: Iterator[str]) -> list[str]:
     """The words of the next line, which there has to be."""
     line = next(lines, None)
@@ -378,7 +428,20 @@ def fold_steps(epoch: Epoch, root: Box, lines: Iterator[str], renews: bool) -> N
     raise EOFError
 
 
-def read_block(words: list[str], outliers: int, lines: Iterator[str], renews: bool) -> tuple[Epoch, str | None]:
+def read_bounds(epoch: Epoch, lines: Iterator[str]) -> str | None:
+    """Takes the bounds behind `done`. The line behind them, which is None at the end."""
+    for line in lines:
+        words = line.split(" ")
+        if words[0] != "bound":
+            return line
+        x, y, z, most, count = wholes(words[1:], 5)
+        if not 1 <= count <= MOST_SUMS:
+            raise ValueError
+        epoch.bounds.append(Bound((x, y, z), most, [sum_of(next_words(lines)) for _ in range(count)]))
+    return None
+
+
+def read_block(words: list[str], outliers: int, lines: Iterator[str], head: str) -> tuple[Epoch, str | None]:
     """The epoch that a first line begins, and the line behind it, which is None at the end."""
     index, ps, satellites = wholes(words[1:], 3)
     if not 0 <= ps < LATEST_PS:
@@ -392,8 +455,8 @@ def read_block(words: list[str], outliers: int, lines: Iterator[str], renews: bo
             epoch.skips.append(skip_of(words))
         elif words[0] == "root" and not epoch.few:
             epoch.root = box_of(wholes(words[1:], 6))
-            fold_steps(epoch, epoch.root, lines, renews)
-            return epoch, next(lines, None)
+            fold_steps(epoch, epoch.root, lines, head != HEADS[0])
+            return epoch, read_bounds(epoch, lines) if head == HEADS[3] else next(lines, None)
         elif epoch.few:
             return epoch, line
         else:
@@ -433,12 +496,12 @@ def blocks(lines: Iterator[str]) -> Iterator[Epoch]:
     rules = next(lines, "").split(" ")
     if rules[0] != "rules":
         raise ValueError
-    line, searches, renews = next(lines, None), Searches(), head != HEADS[0]
+    line, searches = next(lines, None), Searches()
     while line is not None:
         words = line.split(" ")
         if words[0] not in ("epoch", "few"):
             raise ValueError
-        epoch, line = read_block(words, whole(rules[1]), lines, renews)
+        epoch, line = read_block(words, whole(rules[1]), lines, head)
         searches.add(epoch)
         yield epoch
 
