@@ -5,7 +5,10 @@ There is at least one forged log for every number of a verdict, and for every ki
 """
 import collections
 import re
+import tempfile
 from pathlib import Path
+
+from gpscover.log import epochs
 
 TOP = Path(__file__).resolve().parents[1]
 # Four satellites, and a box of some two metres that is closed at the edge.
@@ -54,7 +57,7 @@ FEW, EPOCH, ROOT, DONE = 3, 6, 14, 24
 Forged = collections.namedtuple("Forged", "name command data answer")
 
 # What has to come at least once.
-WANTED = {f"no {number}" for number in range(50, 66)}
+WANTED = {f"no {number}" for number in range(50, 67)}
 WANTED |= {f"log 40 kind {kind}" for kind in range(1, 5)} | {f"rows 40 kind {kind}" for kind in range(1, 6)}
 
 
@@ -436,10 +439,239 @@ def renewal_logs():
     yield "rows with a renewal", "pave", text(put(rows, 1, "gpscover 3") + renewal()), "rows 40 BadLog line 9 kind 2"
 
 
+# ---- bounds
+
+# Of the one box: x - y is at most a metre by G01 and G02. docs/LOG.md works out that their difference shows 1000003 um and no um
+# less; the box by itself leaves 1.9 m. In the corner farthest along the direction there are 2513882 to spare for the aim, which
+# loses 899996 there by each that it is greater, and in the one opposite 2900004 by each that it is less.
+DIFFERENCE = "bound 1 -1 0 1000003 1"
+BY_TWO = "by 4194304 0 -1 1 1 0 0 0 0 0 0"
+BOUNDED = put(ONE_BOX, 1, "gpscover 4")
+BOUND_LINE = len(BOUNDED) + 1
+UNSHOWN = "no 66 BoundNotShown line"
+BEYOND = 2 * 10**20  # what AIM or MOST may be
+# In the log with all kinds of lines the kept boxes reach from -1 m to 6.5 m along x, and 0.9 m along y and z.
+ALL_BOUNDED = put(WITH_ALL, 1, "gpscover 4")
+ALL_BOUND_LINE = len(ALL_BOUNDED) + 1
+ENDS = {(1, 0, 0): 6500000, (-1, 0, 0): 1000000, (0, 1, 0): 900000, (0, 0, -1): 900000, (-2, 3, 0): 4700000}
+
+
+def bound(direction, most, *sums):
+    """The lines of a bound."""
+    return [" ".join(["bound", *map(str, (*direction, most, len(sums)))]), *sums]
+
+
+def nothing(place=0, aim=1):
+    """A sum in which no row is taken at all. So it shows what is so in each corner of the box, while the row at this place
+    isn't left out."""
+    return f"by {aim}" + f" {place} 0" * 5
+
+
+def sums_of_two_rows():
+    """Bounds of the one box by the difference of two rows."""
+    yield [], "yes 1"
+    yield [DIFFERENCE, BY_TWO], "yes 1"
+    yield [DIFFERENCE, BY_TWO] * 2, "yes 1"
+    yield [DIFFERENCE.replace("1000003", "1000002"), BY_TWO], f"{UNSHOWN} {BOUND_LINE}"
+    yield [DIFFERENCE, BY_TWO, DIFFERENCE.replace("1000003", "999999"), BY_TWO], f"{UNSHOWN} {BOUND_LINE + 2}"
+    yield [DIFFERENCE.replace("1000003", "9" + 18 * "0"), BY_TWO], "yes 1"
+    yield [DIFFERENCE.replace("1000003", "-9" + 18 * "0"), BY_TWO], f"{UNSHOWN} {BOUND_LINE}"
+    # The other way round, along other axes, and twice as long, by as many times the same rows.
+    for direction, by in (
+        ("-1 1 0", "by 4194304 0 1 1 -1 0 0 0 0 0 0"), ("1 0 -1", "by 4194304 0 -1 2 1 0 0 0 0 0 0"),
+        ("0 1 -1", "by 4194304 0 0 1 -1 2 1 2 0 2 0"), ("1 -1 0", "by 4194304 1 1 3 0 3 0 2 0 0 -1"),
+        ("1 -1 0", "by 4194304 0 -3 1 1 0 1 0 1 1 0"), ("1 -1 0", "by 4194304000000 0 -1000000 1 1000000 0 0 0 0 0 0"),
+        ("1 -1 0", "by 4398046511104 0 -1048576 1 1048576 0 0 0 0 0 0"),
+        ("1000000 -1000000 0", "by 4194304 0 -1000000 1 1000000 0 0 0 0 0 0"),
+    ):
+        scale = abs(int(direction.split()[0])) or 1
+        for most, answer in (1000010, "yes 1"), (999990, f"{UNSHOWN} {BOUND_LINE}"):
+            if "0 -3" in by and answer[0] == "y":  # the ends of G01 are taken twice
+                most = 3000010
+            yield [f"bound {direction} {most * scale} 1", by], answer
+    # What isn't the difference: an aim or a direction that is off, rows that don't add up to none, other rows, none.
+    yield [DIFFERENCE, BY_TWO.replace("4194304", "4194306")], "yes 1"
+    for by in ("by 4194303 0 -1 1 1 0 0 0 0 0 0", "by 4194307 0 -1 1 1 0 0 0 0 0 0", "by 0 0 -1 1 1 0 0 0 0 0 0",
+               "by 4194304 0 -1 1 1 0 0 0 0 0 1", "by 4194304 0 -1 1 2 0 0 0 0 0 0", "by 4194304 0 1 1 -1 0 0 0 0 0 0",
+               "by 4194304 0 -1 2 1 0 0 0 0 0 0", "by 4194304 1 -1 0 1 0 0 0 0 0 0", "by 4194304 0 0 1 0 0 0 0 0 0 0",
+               "by 4194304 0 -1 4 1 0 0 0 0 0 0", "by 4194304 0 -1 1 1 4 0 0 0 0 0", "by 4194304 0 -1 1 1 63 0 0 0 0 0"):
+        yield [DIFFERENCE, by], f"{UNSHOWN} {BOUND_LINE}"
+        # One sum that shows it isn't enough.
+        yield [DIFFERENCE[:-1] + "2", BY_TWO, by], f"{UNSHOWN} {BOUND_LINE}"
+    for direction in "1 0 0", "1 -1 1", "-1 1 0", "2 -2 0", "1 1 0":
+        yield [f"bound {direction} 1000003 1", BY_TWO], f"{UNSHOWN} {BOUND_LINE}"
+    # Without a direction nothing is said where MOST is 0, and that nothing fits where it is less.
+    for most, by, answer in ((0, nothing(), "yes 1"), (-1, nothing(), f"{UNSHOWN} {BOUND_LINE}"), (-1, BY_TWO, f"{UNSHOWN} {BOUND_LINE}"),
+                             (0, nothing(aim=0), f"{UNSHOWN} {BOUND_LINE}"), (0, nothing(aim=2**44), "yes 1")):
+        yield bound((0, 0, 0), most, by), answer
+    yield bound((0, 0, 0), 0, *64 * [nothing()]), "yes 1"
+
+
+def bounds_where_nothing_fits():
+    """Of two ranges that are 10 m apart the rows contradict each other, whatever is aimed at."""
+    far = ONE_BOX[4].replace(" 20000000000000 20000000000000 -", " 20000010000000 20000010000000 -")
+    lines = put(BOUNDED, 5, far)
+    for by, answer in (("by 0 0 1 1 -1 0 0 0 0 0 0", "yes 1"), ("by 0 0 -1 1 1 0 0 0 0 0 0", f"{UNSHOWN} {BOUND_LINE}"),
+                       ("by 1 0 1 1 -1 0 0 0 0 0 0", "yes 1")):
+        yield lines + bound((1000000, 0, 0), -(10**6) if by[3] == "1" else -9 * 10**18, by), answer
+    # Where the box is closed as empty, no box is kept: no bound is shown, not even one that says nothing.
+    out = put(lines, 9, "out 0")
+    yield out, "yes 0"
+    yield out + bound((0, 0, 0), 0, nothing()), f"{UNSHOWN} {BOUND_LINE}"
+
+
+def bounds_with_wide_rows():
+    """The place of a fifth satellite is round the box, so wide that its least offset is beyond 10^30 or within: it is some
+    (w^2 + w^2 + w^2) * 2^21 with w half the width of each span. It counts where the row is named, also with no M."""
+    for half, answer in (3 * 10**11, "yes 1"), (5 * 10**11, f"{UNSHOWN} {BOUND_LINE + 1}"):
+        wide = f"sat G05 {-half} {half} {-half} {half} {-half} {half} 20000000000000 20000000000000 -500000 500000"
+        lines = before(put(BOUNDED, 3, BOUNDED[2][:-1] + "5"), 8, wide)
+        lines = put(lines, 10, "edge 0 -200000000000000 200000000000000")
+        yield [*lines, DIFFERENCE, BY_TWO], "yes 1"
+        yield [*lines, DIFFERENCE, BY_TWO.replace("0 0 0 0 0 0", "4 0 0 0 0 0")], answer
+
+
+def bounds_with_an_outlier():
+    """Bounds of three kept boxes by sums of no rows, of which two have to be there as one satellite may fail."""
+    for direction, most in ENDS.items():
+        yield [*ALL_BOUNDED, *bound(direction, most, nothing(), nothing(4))], "yes 3"
+        yield [*ALL_BOUNDED, *bound(direction, most - 1, nothing(), nothing(4))], f"{UNSHOWN} {ALL_BOUND_LINE}"
+    x, end = (1, 0, 0), ENDS[1, 0, 0]
+    for sums, answer in (
+        ([nothing()], None), ([nothing(3)] * 2, None), ([nothing(5), nothing(4)], None), ([nothing(63), nothing(1)], None),
+        ([nothing(2), nothing(3), nothing(2)], "yes 3"), ([nothing(2, 0), nothing(3)], None),
+        # A place is in a sum also where no row is taken there.
+        (["by 1 0 0 1 0 2 0 3 0 4 0", nothing(4)], None), (["by 1 0 0 1 0 2 0 3 0 3 0", nothing(4)], "yes 3"),
+        (["by 1 0 0 0 0 0 0 0 0 1 0", "by 1 1 0 1 0 1 0 1 0 2 0", "by 1 2 0 2 0 2 0 2 0 0 0"], "yes 3"),
+        (["by 1 0 0 0 0 0 0 0 0 1 0", "by 1 1 0 1 0 1 0 1 0 2 0", "by 1 2 0 2 0 2 0 2 0 1 0"], None),
+    ):
+        yield [*ALL_BOUNDED, *bound(x, end, *sums)], answer or f"{UNSHOWN} {ALL_BOUND_LINE}"
+    # They come behind all tests of the lines before, and in front of those behind.
+    two = bound(x, end, nothing(), nothing(1))
+    wrong = bound(x, end - 1, nothing(), nothing(1))
+    more = ["epoch 5 2000000000000 5", *WITH_ALL[EPOCH:]]
+    yield [*ALL_BOUNDED, *two, *more, *two], "yes 6"
+    yield [*ALL_BOUNDED, *two, *more, *two, *wrong], f"{UNSHOWN} {ALL_BOUND_LINE + 6 + len(more)}"
+    yield [*ALL_BOUNDED, *wrong, *put(more, 1, "epoch 4 2000000000000 5")], f"{UNSHOWN} {ALL_BOUND_LINE}"
+    yield [*ALL_BOUNDED, *two, *put(more, 1, "epoch 4 2000000000000 5")], f"no 51 EpochDiffers line {ALL_BOUND_LINE + 3}"
+    yield [*put(ALL_BOUNDED, DONE, "done 4"), *wrong], f"no 64 CountDiffers line {DONE}"
+    yield [*put(ALL_BOUNDED, 23), *wrong], "no 63 NotClosed line 23"
+    yield [*ALL_BOUNDED, *two, "few 5 0 0", "skip G01 3"], "yes 3"
+    # What is shown to be empty isn't kept, and a box that is may have been cut.
+    yield [*put(ALL_BOUNDED, 17, "edge 2 5 5"), *two], f"{UNSHOWN} {ALL_BOUND_LINE}"
+    yield [*put(ALL_BOUNDED, 17, "edge 2 5 5"), *bound(x, 15000000, nothing(), nothing(1))], "yes 4"
+    yield [*put(ALL_BOUNDED, 19), *two], f"{UNSHOWN} {ALL_BOUND_LINE - 1}"
+    yield [*put(ALL_BOUNDED, 19), *bound(x, 7000000, nothing(), nothing(1))], "yes 3"
+
+
+def bounds_by_renewed_rows():
+    """Twice x is at most twice the error by G05 and G01: of 5 m by the first rows and of 1 m by the renewed ones. Their ends
+    are told within 50 um."""
+    by = "by 8388608 0 -1 3 1 0 0 0 0 0 0"
+    near, far = bound((1, 0, 0), 1000050, by), bound((1, 0, 0), 5000050, by)
+    new, old, point = renewal(), renewal(rows=OLD_ROWS), renewal((0,) * 6)
+    less = tuple(end - (end > 0) for end in BOX), tuple(end + (end < 0) for end in BOX)
+    for lines, by_new in (
+        ([[CUTS_LEAVE]], False),  # none
+        ([new, [CUTS_LEAVE]], True),
+        ([[CUTS_LEAVE], new], True),
+        ([new, [CUTS_LEAVE], new], True),
+        ([new, [CUTS_LEAVE], old], False),
+        ([old, [CUTS_LEAVE], new], True),
+        # The last renewal is over less than the kept boxes: then the first rows are taken, and none of another renewal.
+        ([[CUTS_LEAVE], point], False),
+        ([new, [CUTS_LEAVE], point], False),
+        ([new, [CUTS_LEAVE], renewal(less[0])], False),
+        ([new, [CUTS_LEAVE], renewal(less[1])], False),
+        ([old, [CUTS_LEAVE], renewal(SEARCH)], True),
+        ([[CUTS_LEAVE], point, new], True),
+    ):
+        made = put(with_renewals(*lines), 1, "gpscover 4")
+        yield made, "yes 1"
+        yield [*made, *far], "yes 1"
+        yield [*made, *near], "yes 1" if by_new else f"{UNSHOWN} {len(made) + 1}"
+        yield [*made, *near, *far], "yes 1" if by_new else f"{UNSHOWN} {len(made) + 1}"
+        yield [*made, *bound((1, 0, 0), 999999, by)], f"{UNSHOWN} {len(made) + 1}"
+
+
+def bounds_that_do_not_fit():
+    """Bounds where none may stand, and lines that don't fit."""
+    whole = [*BOUNDED, DIFFERENCE, BY_TWO]
+    for version in 1, 2, 3:
+        yield put(whole, 1, f"gpscover {version}"), f"log 40 BadLog line {BOUND_LINE} kind 2"
+        yield put(BOUNDED, 1, f"gpscover {version}"), "yes 1"
+    for number in 3, 4, 8, 9, 10:
+        yield before(BOUNDED, number, DIFFERENCE, BY_TWO), f"log 40 BadLog line {number} kind 2"
+        yield before(BOUNDED, number, BY_TWO), f"log 40 BadLog line {number} kind 2"
+    few = [*BOUNDED[:2], "few 1 0 0"]
+    for line in DIFFERENCE, BY_TWO:
+        yield [*few, line], "log 40 BadLog line 4 kind 2"
+        yield [*few[:2], line], "log 40 BadLog line 3 kind 2"
+    yield [*BOUNDED, BY_TWO], f"log 40 BadLog line {BOUND_LINE} kind 2"
+    yield [*whole, BY_TWO], f"log 40 BadLog line {BOUND_LINE + 2} kind 2"
+    two = put(whole, BOUND_LINE, DIFFERENCE[:-1] + "2")
+    for line in (DIFFERENCE, "few 2 0 0", "epoch 2 0 4", "done 0", "edge 0 0 0", "cut 0 0 0", "renew 0 0 0 0 0 0", ONE_BOX[3],
+                 "skip G09 1", "gpscover 4", "By", "bye 1", " " + BY_TWO, BY_TWO.replace(" ", "\t", 1), ""):
+        yield [*two, line], f"log 40 BadLog line {BOUND_LINE + 2} kind 2"
+        yield [*whole[:-1], line], f"log 40 BadLog line {BOUND_LINE + 1} kind 2"
+    for line in "done 0", "edge 0 0 0", "root 0 0 0 0 0 0", "renew 0 0 0 0 0 0", ONE_BOX[3], "skip G09 1", "Bound", "":
+        yield [*whole, line], f"log 40 BadLog line {BOUND_LINE + 2} kind 2"
+    fields = DIFFERENCE.split(" ")
+    for at, wrong in (*((k, w) for k in (1, 2, 3) for w in ("1000001", "-1000001", "x", "", "01", "-0", "1.0", "+1")),
+                      *((4, w) for w in (f"9{17 * '0'}01", f"-9{17 * '0'}01", str(BEYOND), "", "-", "1e6", "01")),
+                      *((5, w) for w in ("0", "65", "-1", "", "01", "1 ", "1 1", "1\r"))):
+        line = " ".join([*fields[:at], wrong, *fields[at + 1 :]])
+        yield put(whole, BOUND_LINE, line), f"log 40 BadLog line {BOUND_LINE} kind 3"
+    for line in "bound", "bound ", " ".join(fields[:-1]), DIFFERENCE.replace(" ", "  ", 1):
+        yield put(whole, BOUND_LINE, line), f"log 40 BadLog line {BOUND_LINE} kind 3"
+    fields = BY_TWO.split(" ")
+    for at, wrong in (*((1, w) for w in (str(2**44 + 1), "-1", str(BEYOND), "", "x", "00")),
+                      *((k, w) for k in (2, 4, 10) for w in ("64", "-1", "", "00", "x")),
+                      *((k, w) for k in (3, 5, 11) for w in (str(2**20 + 1), str(-(2**20) - 1), "", "-0", "+1", "1.0"))):
+        line = " ".join([*fields[:at], wrong, *fields[at + 1 :]])
+        yield put(whole, BOUND_LINE + 1, line), f"log 40 BadLog line {BOUND_LINE + 1} kind 3"
+    for line in "by", "by ", " ".join(fields[:-1]), " ".join(fields[:-2]), BY_TWO + " 0", BY_TWO + " 0 0", BY_TWO + " ", BY_TWO + "\r":
+        yield put(whole, BOUND_LINE + 1, line), f"log 40 BadLog line {BOUND_LINE + 1} kind 3"
+    # A later line that doesn't fit refuses the log also behind a bound that isn't shown.
+    bad = bound((1, 0, 0), -9 * 10**18, nothing())
+    yield [*BOUNDED, *bad, "few 2 0"], f"log 40 BadLog line {BOUND_LINE + 2} kind 3"
+    yield [*BOUNDED, *bad, "few 2 1388102400000000000000 0"], f"{UNSHOWN} {BOUND_LINE}"
+    for count in range(1, 4):
+        yield [*BOUNDED, DIFFERENCE[:-1] + "4", *count * [BY_TWO]], f"log 40 BadLog line {BOUND_LINE + 1 + count} kind 4"
+    yield [*BOUNDED, DIFFERENCE], f"log 40 BadLog line {BOUND_LINE + 1} kind 4"
+    # Numbers at the ends of their ranges are none of these.
+    wide = f"bound 1000000 -1000000 1000000 9{18 * '0'} 1", f"by {2**44} 63 1048576 63 -1048576 0 0 0 0 0 0"
+    yield [*BOUNDED, *wide], f"{UNSHOWN} {BOUND_LINE}"
+
+
+def bounded_logs():
+    """Logs with bounds, each with what `judge` says of it."""
+    for more, answer in sums_of_two_rows():
+        yield [*BOUNDED, *more], answer
+    for table in (bounds_where_nothing_fits, bounds_with_wide_rows, bounds_with_an_outlier, bounds_by_renewed_rows,
+                  bounds_that_do_not_fit):
+        yield from table()
+
+
+def bound_logs():
+    """Logs and rows with bounds."""
+    for number, (lines, answer) in enumerate(bounded_logs()):
+        yield f"bounds {number}", "judge", text(lines), answer
+    for cut in DIFFERENCE, BY_TWO:
+        lines = [*BOUNDED, DIFFERENCE, BY_TWO]
+        lines = lines[: lines.index(cut) + 1]
+        yield f"no last LF behind {cut}", "judge", text(lines)[:-1], f"log 40 BadLog line {len(lines)} kind 4"
+    rows = ONE_BOX[:8]
+    yield "rows of version 4", "pave", text(put(rows, 1, "gpscover 4")), "rows 40 BadLog line 1 kind 1"
+    for line in DIFFERENCE, BY_TWO:
+        yield f"rows with {line}", "pave", text([*put(rows, 1, "gpscover 3"), line]), "rows 40 BadLog line 9 kind 2"
+
+
 def verdicts():
     """Verdicts on the log with all kinds of lines."""
     yield "with all, as it is", "judge", text(WITH_ALL), "yes 3"
-    yield "with all, by version 2", "judge", text(put(WITH_ALL, 1, "gpscover 2")), "yes 3"
+    for version in 2, 4:
+        yield f"with all, by version {version}", "judge", text(put(WITH_ALL, 1, f"gpscover {version}")), "yes 3"
     for changes, answer in VERDICTS:
         yield f"with all, {changes}", "judge", text(changed(WITH_ALL, changes)), answer
     for lines, answer in (
@@ -465,7 +697,7 @@ def verdicts():
 WRONG_HEADS = {
     1: ("gpscover 02", "gpscover 2 ", "gpscover 0", "gpscover 1 ", " gpscover 1", "gpscover  1", "gpscover 01", "gpscover",
         "Gpscover 1", "",
-        "gpscover 3 ", "gpscover 03", "gpscover 4", "gpscover 13", "gpscover 1 3", "gpscover -3"),
+        "gpscover 3 ", "gpscover 03", "gpscover 4 ", "gpscover 5", "gpscover 13", "gpscover 1 3", "gpscover -3"),
     2: ("rules 9 3 1000000", "rules 1 200001 1000000", "rules 1 3 999", "rules 1 3 10000000001", "rules 1 3",
         "rules 1 3 1000000 0", "rules -1 3 1000000", "rules 01 3 1000000", "rules 1 3 1000000 ", "rule 1 3 1000", ""),
 }
@@ -677,6 +909,7 @@ def checked_logs(files):
             yield "other rules", files.stepped(2, place, by), "no 50 RulesDiffer line 2"
     yield "another version", put(lines, 1, "gpscover 3"), "no 50 RulesDiffer line 2"
     yield "version 2", put(lines, 1, "gpscover 2"), f"yes {files.boxes}"
+    yield "version 4", put(lines, 1, "gpscover 4"), "no 50 RulesDiffer line 2"
     for head in files.heads:
         for place in 1, 2:
             yield "another index or time", files.stepped(head, place, 1), f"no 51 EpochDiffers line {head}"
@@ -811,6 +1044,38 @@ def checked_renewals(files):
     yield "a row of what is less sure", renewed([*rows[:2], rows[2] + " 0 0", *rows[3:]]), f"no 54 BoundDiffers line {root + 4}"
 
 
+def checked_bounds(files):
+    """Bounds by `check`, at the ends of the hull of the kept boxes of the first epoch, by sums of no rows. One row may be left
+    out. Where rows are renewed over less they are those in front of the root, of as many satellites."""
+    lines, done, ends = put(files.lines, 1, "gpscover 4"), files.done, files.root_ends()
+    with tempfile.TemporaryDirectory() as room:
+        path = Path(room) / "log"
+        path.write_bytes(text(files.lines))
+        boxes = next(epochs(path)).boxes
+    yield lines, f"yes {files.boxes}"
+    for axis in range(3):
+        low, high = min(box.low[axis] for box in boxes), max(box.high[axis] for box in boxes)
+        for sign, end in (1, high), (-1, -low):
+            direction = [sign * (axis == k) for k in range(3)]
+            for most, sums, answer in (
+                (end, [nothing(), nothing(1)], f"yes {files.boxes}"),
+                (end - 1, [nothing(), nothing(1)], f"{UNSHOWN} {done + 1}"),
+                (end, [nothing(), nothing()], f"{UNSHOWN} {done + 1}"),
+            ):
+                yield before(lines, done + 1, *bound(direction, most, *sums)), answer
+    point = renewal([*ends[:3], *ends[:3]], files.rows())
+    true = bound((0, 0, 0), 0, nothing(), nothing(1))
+    yield before(before(lines, done + 1, *true), done, *point), f"yes {files.boxes}"
+    yield before(lines, done + 1, *true[:2]), f"log 40 BadLog line {done + 3} kind 2"
+    # They come behind 64, and in front of 51 of the next epoch.
+    false = bound((0, 0, 0), -1, nothing(), nothing(1))
+    wrong = put(lines, done, files.stepped(done, 1, 1)[done - 1])
+    yield before(wrong, done + 1, *false), f"no 64 CountDiffers line {done}"
+    later = before(files.stepped(done + 1, 1, 1), done + 1, *false)
+    yield later, f"log 40 BadLog line {done + 1} kind 2"
+    yield put(later, 1, "gpscover 4"), f"{UNSHOWN} {done + 1}"
+
+
 def checked_rules(files):
     """50, 61 and 62 by `check`, whose rules are those of the settings: the settings are changed with them."""
     by_pairs = re.sub(r"(?m)^(max_age = .*)$", r"\1\npairs = true", files.settings)
@@ -819,6 +1084,8 @@ def checked_rules(files):
     yield by_pairs, put(files.lines, 1, "gpscover 2"), "no 50 RulesDiffer line 2"
     renewed = before(put(files.lines, 1, "gpscover 3"), files.root + 1, *renewal(files.root_ends(), files.rows()))
     yield by_pairs, renewed, f"yes {files.boxes}"
+    for lines, answer in checked_bounds(files):
+        yield by_pairs, lines, answer
     # Whether the settings ask for renewed rows is for `solve` alone.
     for value in "true", "false":
         renewing = re.sub(r"(?m)^(max_age = .*)$", rf"\1\nrenew = {value}", files.settings)
@@ -856,7 +1123,7 @@ def holds_own(out, ends):
 
 def judged_and_paved():
     """The forged logs that stand by themselves."""
-    tables = one_box_logs(), pair_logs(), renewal_logs(), verdicts(), refusals(), refused_rows()
+    tables = one_box_logs(), pair_logs(), renewal_logs(), bound_logs(), verdicts(), refusals(), refused_rows()
     return [Forged(*row) for table in tables for row in table]
 
 

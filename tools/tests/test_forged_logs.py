@@ -1,4 +1,4 @@
-"""Judges, checks, guards and paves forged logs; the second checker is asked of those with renewed rows too.
+"""Judges, checks, guards and paves forged logs; the second checker is asked of those with renewed rows and bounds too.
 
 Where `guard` takes a log for right, its lines are those of gpscover.zones.
 """
@@ -91,9 +91,9 @@ def test_each_answer_is_wanted_at_least_once():
     assert forged_logs.WANTED <= answers
 
 
-def renewals():
-    """(settings or None, lines, answer) of logs with renewals: judged, and checked beside a receiver's files."""
-    for lines, answer in forged_logs.short_renewals():
+def renewals_and_bounds():
+    """(settings or None, lines, answer) of logs with renewals or bounds: judged, and checked beside a receiver's files."""
+    for lines, answer in [*forged_logs.short_renewals(), *forged_logs.bounded_logs()]:
         yield None, lines, answer
     for _, lines, answer in forged_logs.checked_renewals(FILES):
         yield FILES.settings, lines, answer
@@ -109,8 +109,8 @@ def checker(request):
     return 2 * ([sys.executable, TOP / "second/recheck.py"],)
 
 
-@pytest.mark.parametrize("settings, lines, answer", renewals())
-def test_both_checkers_on_renewed_rows(checker, room, settings, lines, answer):
+@pytest.mark.parametrize("settings, lines, answer", renewals_and_bounds())
+def test_both_checkers_on_renewed_rows_and_bounds(checker, room, settings, lines, answer):
     line = answer if isinstance(answer, str) else answer[0]
     (room / "log").write_bytes(text(lines))
     words = [
