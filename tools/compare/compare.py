@@ -3,8 +3,8 @@
 
     python3 -m tools.compare.compare --program PATH --data DIRECTORY [--draws NUMBER] [--seed NUMBER] [PART ..]
 
-The parts are recorded, records, rows, page, logs, tracks, cuts, renewals, selections, cases and drawn; without one all
-are run.
+The parts are recorded, records, rows, page, logs, tracks, cuts, renewals, bounds, selections, cases and drawn; without one
+all are run.
 An answer is the exit status with all that is printed. Two answers agree where they are the same. Where both say 53 on
 the same line, the printed spans may differ, as each is of a program's own: then both own spans have to be at most W
 wide, or G where they are of the bounds, and to share a number. Where one alone says 53, the log's span has to lie so
@@ -22,6 +22,7 @@ import time
 from pathlib import Path
 
 from tools.compare.second import PATH as SECOND, recheck
+from tools.compare.bounds import over_one_box, text, with_bounds
 from tools.compare.cases import named_cases
 from tools.compare.cuts import log_with_cuts, with_cuts
 from tools.compare.renewals import with_renewals
@@ -31,7 +32,8 @@ from tools import changed_logs
 from tools.made import made_two_systems
 
 PLACE = 6 * 10**13  # um
-PARTS = ("recorded", "records", "rows", "page", "logs", "tracks", "cuts", "renewals", "selections", "cases", "drawn")
+PARTS = ("recorded", "records", "rows", "page", "logs", "tracks", "cuts", "renewals", "bounds", "selections", "cases",
+         "drawn")
 
 
 class Tally:
@@ -255,7 +257,7 @@ def log_changes(log, rooms, words=None):
                               ("one more field", line + b" 1"), ("one field less", line.rpartition(b" ")[0]),
                               ("byte 0", line + b"\0"), ("byte 200", line + b"\xc8")):
             yield name + what, joined(before + [changed] + after)
-        words = b"epoch few sat skip root renew cut split out in edge done rules".split()
+        words = b"epoch few sat skip root renew cut split out in edge done rules bound by".split()
         first, _, rest = line.partition(b" ")
         for word in words:
             if word != first and at % 4 == words.index(word) % 4:
@@ -418,6 +420,35 @@ def renewals(arguments, directory):
     return [put, small]
 
 
+def bounds(arguments, directory):
+    """Bounds over one box and behind the steps of logs, and small changes of the lines of such a log."""
+    chance = random.Random(arguments.seed)
+    alone, put, small = Tally("bounds over one box"), Tally("bounds put behind epochs"), Tally("changed: a log with `bound`")
+    pair = Pair(arguments.program, directory)
+    for name, lines, answer in over_one_box(chance, arguments.draws):
+        status, out, _ = pair.compare(text(lines), alone, name, judge=True)
+        if out != answer + "\n":
+            print(f"  different: {name}: program {status} {out!r}, and by the definitions {answer}")
+    for number, (obs, nav, settings) in enumerate([small_files(8), *bases(arguments.data)]):
+        pair.write((obs, nav, with_pairs(settings)))
+        _, log = pair.solve()
+        pair.own_answer(log)
+        ways = (False, True) if len(pair.files.epochs) == 1 else (True,)  # each log has one epoch
+        for name, changed in with_bounds(chance, log, arguments.draws // 10):
+            for judge in ways:
+                pair.compare(changed, put, f"files {number}, {name}", judge)
+    obs, nav, settings = small_files(2)
+    pair.write((obs, nav, with_pairs(settings)))
+    made = with_bounds(chance, pair.solve()[1], 40)
+    accepted = next(log for name, log in made if "not renewed" in name and pair.own_answer(log)[0][0] == 0)
+    for change, changed in log_changes(accepted, (pair.files.room,), (b"gpscover", b"epoch", b"done", b"bound", b"by")):
+        for judge in (False, True):
+            pair.compare(changed, small, change, judge)
+    for tally in (alone, put, small):
+        print(f"{tally.part}: answers of the program:", dict(sorted(tally.answers.items())))
+    return [alone, put, small]
+
+
 def shortened(log, epochs, splits):
     """The first epochs of a log, with at most so many splits in its rules; their steps no longer fit."""
     head, *blocks = re.split(rb"(?m)^(?=epoch|few)", log)
@@ -509,6 +540,11 @@ def with_renewed_rows(settings, half=10_000_000):
     """The settings with renewed rows over a large search box."""
     settings = re.sub(rb"(?m)^half = .*$", b"half = %d" % half, settings)
     return re.sub(rb"(?m)^(max_age = .*)$", rb"\1\nrenew = true", settings)
+
+
+def with_pairs(settings):
+    """The settings by which pairs of rows show boxes empty too."""
+    return re.sub(rb"(?m)^(max_age = .*)$", rb"\1\npairs = true", settings)
 
 
 def bases(data):
