@@ -544,7 +544,8 @@ def with_renewed_rows(settings, half=10_000_000):
 
 def with_pairs(settings):
     """The settings by which pairs of rows show boxes empty too."""
-    return re.sub(rb"(?m)^(max_age = .*)$", rb"\1\npairs = true", settings)
+    without = re.sub(rb"(?m)^pairs = .*\n", b"", settings)
+    return re.sub(rb"(?m)^(max_age = .*)$", rb"\1\npairs = true", without)
 
 
 def bases(data):
