@@ -310,7 +310,7 @@ class TestJudging(WholeRuns):
     def test_what_is_no_log_is_refused(self):
         head = "gpscover 1\nrules 0 0 1000000\n"
         for log, line, kind in (
-            ("", 1, 4), ("gpscover 4\n", 1, 1), ("gpscover 2\n", 2, 4), (head + "done 0\n", 3, 2),
+            ("", 1, 4), ("gpscover 5\n", 1, 1), ("gpscover 4\n", 2, 4), (head + "done 0\n", 3, 2),
             (head + "epoch 1 0 0\nroot 0 0 0 0 0 0\ncut 0 6 0\n", 5, 3),
         ):
             refused = f"log 40 BadLog line {line} kind {kind}\n"
@@ -498,7 +498,7 @@ class TestChecking(WholeRuns):
         differ, same = (NO, "no 50 RulesDiffer line 2\n"), (DONE, "yes 0\n")
         for settings, version, (status, said) in (
             (SETTINGS, 3, differ), (PAIRS_SETTINGS, 1, differ), (PAIRS_SETTINGS, 3, same), (SETTINGS, 2, same),
-            (PAIRS_SETTINGS, 2, differ),
+            (PAIRS_SETTINGS, 2, differ), (SETTINGS, 4, differ), (PAIRS_SETTINGS, 4, same),
         ):
             log = LOG.replace("gpscover 1", f"gpscover {version}")
             self.expect_twice(self.WORDS, RECEIVER | {"a.toml": settings, "a.log": log}, status, said)
