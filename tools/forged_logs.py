@@ -501,9 +501,11 @@ def sums_of_two_rows():
     for direction in "1 0 0", "1 -1 1", "-1 1 0", "2 -2 0", "1 1 0":
         yield [f"bound {direction} 1000003 1", BY_TWO], f"{UNSHOWN} {BOUND_LINE}"
     # Without a direction nothing is said where MOST is 0, and that nothing fits where it is less.
-    for most, by, answer in ((0, nothing(), "yes 1"), (-1, nothing(), f"{UNSHOWN} {BOUND_LINE}"), (-1, BY_TWO, f"{UNSHOWN} {BOUND_LINE}"),
-                             (0, nothing(aim=0), f"{UNSHOWN} {BOUND_LINE}"), (0, nothing(aim=2**44), "yes 1")):
-        yield bound((0, 0, 0), most, by), answer
+    for most, by, answer in ((0, nothing(), "yes 1"), (-1, nothing(), None), (-1, BY_TWO, None), (0, nothing(aim=0), None),
+                             (0, nothing(aim=2**44), "yes 1"), (0, f"by {2**44} 0 1 1 -1 0 0 0 0 0 0", "yes 1"),
+                             # The rows don't add up to none, which is all that is wrong: what the sum leaves is some 2^42.
+                             (0, f"by {2**44} 0 1 0 0 0 0 0 0 0 0", None), (0, f"by {2**44} 0 2 1 -1 0 0 0 0 0 0", None)):
+        yield bound((0, 0, 0), most, by), answer or f"{UNSHOWN} {BOUND_LINE}"
     yield bound((0, 0, 0), 0, *64 * [nothing()]), "yes 1"
 
 
@@ -515,9 +517,15 @@ def bounds_where_nothing_fits():
                        ("by 1 0 1 1 -1 0 0 0 0 0 0", "yes 1")):
         yield lines + bound((1000000, 0, 0), -(10**6) if by[3] == "1" else -9 * 10**18, by), answer
     # Where the box is closed as empty, no box is kept: no bound is shown, not even one that says nothing.
-    out = put(lines, 9, "out 0")
+    out, true = put(lines, 9, "out 0"), bound((0, 0, 0), 0, nothing())
     yield out, "yes 0"
-    yield out + bound((0, 0, 0), 0, nothing()), f"{UNSHOWN} {BOUND_LINE}"
+    yield out + true, f"{UNSHOWN} {BOUND_LINE}"
+    # Each epoch has a hull of its own: one that is none, or half as long along x as the one before.
+    later = ["epoch 2 1388102400000000000000 4"]
+    yield [*BOUNDED, *true, *later, *out[3:], *true], f"{UNSHOWN} {2 * BOUND_LINE - 1}"
+    half = [*later, *ONE_BOX[3:7], ONE_BOX[7].replace("1000000", "500000"), *ONE_BOX[8:]]
+    for most, answer in (500000, "yes 2"), (499999, f"{UNSHOWN} {2 * BOUND_LINE - 3}"):
+        yield [*BOUNDED, *half, *bound((1, 0, 0), most, nothing())], answer
 
 
 def bounds_with_wide_rows():
@@ -618,7 +626,7 @@ def bounds_that_do_not_fit():
         yield [*whole, line], f"log 40 BadLog line {BOUND_LINE + 2} kind 2"
     fields = DIFFERENCE.split(" ")
     for at, wrong in (*((k, w) for k in (1, 2, 3) for w in ("1000001", "-1000001", "x", "", "01", "-0", "1.0", "+1")),
-                      *((4, w) for w in (f"9{17 * '0'}01", f"-9{17 * '0'}01", str(BEYOND), "", "-", "1e6", "01")),
+                      *((4, w) for w in (f"9{17 * '0'}1", f"-9{17 * '0'}1", str(BEYOND), "", "-", "1e6", "01")),
                       *((5, w) for w in ("0", "65", "-1", "", "01", "1 ", "1 1", "1\r"))):
         line = " ".join([*fields[:at], wrong, *fields[at + 1 :]])
         yield put(whole, BOUND_LINE, line), f"log 40 BadLog line {BOUND_LINE} kind 3"
@@ -630,7 +638,8 @@ def bounds_that_do_not_fit():
                       *((k, w) for k in (3, 5, 11) for w in (str(2**20 + 1), str(-(2**20) - 1), "", "-0", "+1", "1.0"))):
         line = " ".join([*fields[:at], wrong, *fields[at + 1 :]])
         yield put(whole, BOUND_LINE + 1, line), f"log 40 BadLog line {BOUND_LINE + 1} kind 3"
-    for line in "by", "by ", " ".join(fields[:-1]), " ".join(fields[:-2]), BY_TWO + " 0", BY_TWO + " 0 0", BY_TWO + " ", BY_TWO + "\r":
+    for line in ("by", "by ", " ".join(fields[:-1]), " ".join(fields[:-2]),
+                 *(BY_TWO + more for more in (" 0", " 0 0", " ", "\r"))):
         yield put(whole, BOUND_LINE + 1, line), f"log 40 BadLog line {BOUND_LINE + 1} kind 3"
     # A later line that doesn't fit refuses the log also behind a bound that isn't shown.
     bad = bound((1, 0, 0), -9 * 10**18, nothing())
