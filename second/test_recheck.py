@@ -114,19 +114,20 @@ def bound_cases(folder):
 
 def bound_values():
     """(what, found, wanted) of sums of rows: which are left whichever rows are left out, and what they show."""
-    by = [[1, *(number for place in places for number in (place, 0))] for places in ([0, 1, 2, 2, 2], [2, 3, 3, 3, 3], [4] * 5)]
+    by = [[1, *(number for place in places for number in (place, 0))]
+          for places in ([0, 1, 2, 2, 2], [2, 3, 3, 3, 3], [4] * 5)]
     for sums, left_out, wanted in ((by, 0, True), (by, 1, True), (by, 2, False), (by, 8, False), (by[:2], 1, False),
                                    (by[1:], 1, True), (by[:1], 0, True), (by[:1], 1, False), (by[:1], 8, False)):
         yield f"{len(sums)} sums without {left_out}", recheck.sums_left(sums, left_out), wanted
     # Twice x is at most 10 by these two, and the box reaches from -100 to 100.
-    forms, box = [([recheck.S, 0, 0], 10 * recheck.S, -10 * recheck.S), ([-recheck.S, 0, 0], 10 * recheck.S, 0)], [-100] * 3 + [100] * 3
-    two = [0, 1, 1, -1, 0, 0, 0, 0, 0, 0]
-    for aim, most, wanted in ((2 * recheck.S, 5, True), (2 * recheck.S, 4, False), (2 * recheck.S + 1, 5, True), (0, 5, False)):
+    scale, box, two = recheck.S, [-100] * 3 + [100] * 3, [0, 1, 1, -1, 0, 0, 0, 0, 0, 0]
+    forms = [([scale, 0, 0], 10 * scale, -10 * scale), ([-scale, 0, 0], 10 * scale, 0)]
+    for aim, most, wanted in (2 * scale, 5, True), (2 * scale, 4, False), (2 * scale + 1, 5, True), (0, 5, False):
         yield f"aim {aim}", recheck.sum_shows(forms, box, [1, 0, 0, most, 1], [aim, *two]), wanted
     for upper, wanted in (10**30, True), (10**30 + 1, False):
         far = [*forms, ([0, 0, 0], upper, 0), ([0, 0, 0], 0, -upper)]
         for place in 2, 3:
-            found = recheck.sum_shows(far, box, [1, 0, 0, 5, 1], [2 * recheck.S, *two[:-2], place, 0])
+            found = recheck.sum_shows(far, box, [1, 0, 0, 5, 1], [2 * scale, *two[:-2], place, 0])
             yield f"an end of {upper} at place {place}", found, wanted
 
 
@@ -735,6 +736,15 @@ def track_cases(folder):
         text = "\n".join(["gpscover 2", "rules 1 12 1000000", *(line for block in blocks for line in block), ""])
         log = written(folder, f"renewedtrack{number}.log", text)
         yield ("--track", *plain, log), (0 if wanted.startswith("yes") else 1, wanted)
+    # Bounds lie in the epoch's own boxes, of which the first epoch has what its cuts leave, and move no root.
+    by_pairs = re.sub(r"(?m)^(max_age = .*)$", r"\1\npairs = true", plain[2].read_text())
+    paths = [*plain[:2], written(folder, "bounded.toml", by_pairs)]
+    for number, (ends, wanted) in enumerate((
+            ((400, 420), "yes 4"), ((400, 400), "no 66 BoundNotShown line 34"), ((399, 420), "no 66 BoundNotShown line 18"))):
+        behind = [[f"bound 1 0 0 {MIDDLE[0] + end * 10**6} 2", *(f"by 1{f' {place} 0' * 5}" for place in (0, 1))] for end in ends]
+        lines = [*first, *behind[0], *second, *behind[1], *third, *fourth]
+        log = written(folder, f"boundedtrack{number}.log", "\n".join(["gpscover 4", "rules 1 12 1000000", *lines, ""]))
+        yield ("--track", *paths, log), (0 if wanted.startswith("yes") else 1, wanted)
     log = written(folder, "plain.log", "\n".join(["gpscover 1", "rules 1 12 1000000", *first, *second, ""]))
     yield (*plain, log, "--to", "2"), (1, "no 55 RootDiffers line 28")  # as `check`
     yield ("--track", *FILES, LOG), (3, "settings 31 Missing motion.speed\n")
