@@ -1,10 +1,10 @@
 -- What each kind of line leads to, and blocks line by line.
-use Rattle.std.proofs.Common.{◌≡◌, ℕ, suc, ◌+◌, ◌-◌, ◌<◌, ◌≤◌, Bool, true, false, List, [], ◌∷◌, ◌++◌, length, map, Some, None, refl, sym, ap, subst, ◌∙◌, append_assoc, arith}
-use Rattle.std.specs.Prelude.{nat_lt, Option}
+use Rattle.std.proofs.Common.{◌≡◌, ℕ, suc, ◌+◌, ◌-◌, ◌<◌, ◌≤◌, true, List, [], ◌∷◌, ◌++◌, length, map, Some, None, refl, sym, ap, subst, ◌∙◌, append_assoc, arith}
+use Rattle.std.specs.Prelude.{◌&&◌, nat_lt, Option}
 use Rattle.std.specs.List.{flat_map, AllByRecursion}
 use Rattle.std.proofs.lemmas.List.{map-append, length-append, append-nil}
 use Rattle.std.proofs.lemmas.List.Concat.{flat_map-append}
-use Rattle.std.proofs.lemmas.Bool.{ltb-true}
+use Rattle.std.proofs.lemmas.Bool.{ltb-true, and_parts}
 use Rattle.grid_model.specs.Boxes.{GridBox}
 use Rattle.sat_model.specs.declared.rows.Row.{Row}
 use Rattle.sat_model.specs.declared.rows.SatEntry.{SatEntry}
@@ -13,14 +13,14 @@ use Rattle.sat_model.specs.declared.steps.Step.{Step}
 use Rattle.sat_model.specs.Events.{Event, Renewed, rows_over}
 use Rattle.log_lines.specs.declared.line.Corners.{Corners}
 use Rattle.log_lines.specs.declared.line.Form.{Form}
-use Rattle.log_lines.specs.declared.line.Form.TheVariants as form
+use Rattle.log_lines.specs.declared.line.LogForm.{LogForm}
 use Rattle.log_lines.specs.declared.line.LogLine.{LogLine}
 use Rattle.log_lines.specs.declared.line.LogLine.TheVariants as line
 use Rattle.log_lines.specs.declared.line.Place.{Place}
 use Rattle.log_lines.specs.declared.line.Place.TheVariants as place
 use Rattle.paving_log.specs.declared.lines.Lines.{Lines}
 use Rattle.paving_log.specs.declared.lines.Opening.{Opening}
-use Rattle.log_lines.specs.Order.{only_if, next, place_behind_root}
+use Rattle.log_lines.specs.Order.{only_if, next, place_behind_root, place_behind_done}
 use Rattle.log_lines.specs.Rows.{corners_of}
 use Rattle.log_lines.specs.Text.{first_line, row_line, event_lines, IsSkipped, EventFits}
 use Rattle.paving_log.specs.Taking.{Takes, TakesWith, TakesTo, block_place}
@@ -30,21 +30,21 @@ use Rattle.log_lines.proofs.OrderLemmas.{only_true, only_place}
 
 -- ---- where a line leads
 
-pub behind_step : (renews : Bool) (n : ℕ) (s : Step) (to : Place)
-    → next (place.Steps renews n 0) (line.Step s) ≡ Some to → to ≡ place.Steps renews n 0
-behind_step renews n s to e = only_place true (place.Steps renews n 0) to e
+pub behind_step : (may : LogForm) (n : ℕ) (s : Step) (to : Place)
+    → next (place.Steps may n 0) (line.Step s) ≡ Some to → to ≡ place.Steps may n 0
+behind_step may n s to e = only_place true (place.Steps may n 0) to e
 
-pub behind_row : (renews : Bool) (n left : ℕ) (row : Row) (to : Place)
-    → next (place.Steps renews n left) (line.Sat (entry.Row row)) ≡ Some to
-    → to ≡ place.Steps renews n (left - 1)
-behind_row renews n left row to e = only_place (nat_lt 0 left) (place.Steps renews n (left - 1)) to e
+pub behind_row : (may : LogForm) (n left : ℕ) (row : Row) (to : Place)
+    → next (place.Steps may n left) (line.Sat (entry.Row row)) ≡ Some to
+    → to ≡ place.Steps may n (left - 1)
+behind_row may n left row to e = only_place (nat_lt 0 left) (place.Steps may n (left - 1)) to e
 
 -- a renewal comes where rows may be renewed
-pub behind_renew : (renews : Bool) (n : ℕ) (c : Corners) (to : Place)
-    → next (place.Steps renews n 0) (line.Renew c) ≡ Some to
-    → (renews ≡ true) × (to ≡ place.Steps renews n n)
-behind_renew true n c to e = (refl, only_place true (place.Steps true n n) to e)
-behind_renew false n c to e = cc
+pub behind_renew : (may : LogForm) (n : ℕ) (c : Corners) (to : Place)
+    → next (place.Steps may n 0) (line.Renew c) ≡ Some to
+    → (may.renews ≡ true) × (to ≡ place.Steps may n n)
+behind_renew may n c to e =
+    ((and_parts may.renews true (only_true (may.renews && true) (place.Steps may n n) to e)).0, only_place (may.renews && true) (place.Steps may n n) to e)
 
 -- one line more, below 64
 pub record IsOneMore (k : ℕ) (after to : Place) : Type 0 where
@@ -144,85 +144,85 @@ opening_taken f start old new sats o l k to before count is behind taken number 
 -- ---- steps and renewals
 
 -- steps and renewals that fit were taken from the front
-pub record TakesEvents (renews : Bool) (n : ℕ) (start : Lines) (events : List Event) (left : Lines) : Type 0 where
-  pub taken : Takes (place.Steps renews n 0) start (flat_map event_lines events) (place.Steps renews n 0) left
-  pub fit : AllByRecursion (EventFits renews n) events
+pub record TakesEvents (may : LogForm) (n : ℕ) (start : Lines) (events : List Event) (left : Lines) : Type 0 where
+  pub taken : Takes (place.Steps may n 0) start (flat_map event_lines events) (place.Steps may n 0) left
+  pub fit : AllByRecursion (EventFits may.renews n) events
 
 -- the lines of one event more
-pub event_taken : (renews : Bool) (n : ℕ) (start old new : Lines) (events pushed : List Event) (event : Event)
-    → Takes (place.Steps renews n 0) start (flat_map event_lines events) (place.Steps renews n 0) old
-    → Takes (place.Steps renews n 0) old (event_lines event) (place.Steps renews n 0) new
+pub event_taken : (may : LogForm) (n : ℕ) (start old new : Lines) (events pushed : List Event) (event : Event)
+    → Takes (place.Steps may n 0) start (flat_map event_lines events) (place.Steps may n 0) old
+    → Takes (place.Steps may n 0) old (event_lines event) (place.Steps may n 0) new
     → pushed ≡ events ++ event ∷ []
-    → Takes (place.Steps renews n 0) start (flat_map event_lines pushed) (place.Steps renews n 0) new
-event_taken renews n start old new events pushed event before one push =
+    → Takes (place.Steps may n 0) start (flat_map event_lines pushed) (place.Steps may n 0) new
+event_taken may n start old new events pushed event before one push =
     let grown : flat_map event_lines events ++ event_lines event ≡ flat_map event_lines pushed =
     ap (λ (ls : List LogLine). flat_map event_lines events ++ ls) (sym (append-nil (event_lines event)))
     ∙ sym (flat_map-append event_lines events (event ∷ [])) ∙ ap (flat_map event_lines) (sym push) in
-    subst (λ (ls : List LogLine). Takes (place.Steps renews n 0) start ls (place.Steps renews n 0) new) grown
+    subst (λ (ls : List LogLine). Takes (place.Steps may n 0) start ls (place.Steps may n 0) new) grown
     (takes_on _ _ _ start old new (flat_map event_lines events) (event_lines event) before one)
 
 -- the lines of a step, of the box of a renewal and of the number of splits, each where it leads
-pub one_step : (renews : Bool) (n : ℕ) (old new : Lines) (s : Step) (l : LogLine) (to : Place)
-    → l ≡ line.Step s → Takes (place.Steps renews n 0) old (l ∷ []) to new
-    → Takes (place.Steps renews n 0) old (line.Step s ∷ []) (place.Steps renews n 0) new
-one_step renews n old new s l to is taken =
-    let one : Takes (place.Steps renews n 0) old (line.Step s ∷ []) to new = takes_one _ _ old l (line.Step s) to to new refl is refl taken in
-    takes_one _ _ old (line.Step s) (line.Step s) to (place.Steps renews n 0) new refl refl (behind_step renews n s to (leads_to _ old _ to new one)) one
+pub one_step : (may : LogForm) (n : ℕ) (old new : Lines) (s : Step) (l : LogLine) (to : Place)
+    → l ≡ line.Step s → Takes (place.Steps may n 0) old (l ∷ []) to new
+    → Takes (place.Steps may n 0) old (line.Step s ∷ []) (place.Steps may n 0) new
+one_step may n old new s l to is taken =
+    let one : Takes (place.Steps may n 0) old (line.Step s ∷ []) to new = takes_one _ _ old l (line.Step s) to to new refl is refl taken in
+    takes_one _ _ old (line.Step s) (line.Step s) to (place.Steps may n 0) new refl refl (behind_step may n s to (leads_to _ old _ to new one)) one
 
-pub one_renew : (renews : Bool) (n : ℕ) (old new : Lines) (c : Corners) (l : LogLine) (to : Place)
-    → l ≡ line.Renew c → Takes (place.Steps renews n 0) old (l ∷ []) to new
-    → Takes (place.Steps renews n 0) old (line.Renew c ∷ []) (place.Steps renews n n) new
-one_renew renews n old new c l to is taken =
-    let one : Takes (place.Steps renews n 0) old (line.Renew c ∷ []) to new = takes_one _ _ old l (line.Renew c) to to new refl is refl taken in
-    takes_one _ _ old (line.Renew c) (line.Renew c) to (place.Steps renews n n) new refl refl (behind_renew renews n c to (leads_to _ old _ to new one)).1 one
+pub one_renew : (may : LogForm) (n : ℕ) (old new : Lines) (c : Corners) (l : LogLine) (to : Place)
+    → l ≡ line.Renew c → Takes (place.Steps may n 0) old (l ∷ []) to new
+    → Takes (place.Steps may n 0) old (line.Renew c ∷ []) (place.Steps may n n) new
+one_renew may n old new c l to is taken =
+    let one : Takes (place.Steps may n 0) old (line.Renew c ∷ []) to new = takes_one _ _ old l (line.Renew c) to to new refl is refl taken in
+    takes_one _ _ old (line.Renew c) (line.Renew c) to (place.Steps may n n) new refl refl (behind_renew may n c to (leads_to _ old _ to new one)).1 one
 
-pub one_done : (renews : Bool) (n : ℕ) (old new : Lines) (splits : ℕ) (l : LogLine) (to : Place)
-    → l ≡ line.Done splits → Takes (place.Steps renews n 0) old (l ∷ []) to new
-    → Takes (place.Steps renews n 0) old (line.Done splits ∷ []) (place.Between (form.Log renews)) new
-one_done renews n old new splits l to is taken =
-    let one : Takes (place.Steps renews n 0) old (line.Done splits ∷ []) to new = takes_one _ _ old l (line.Done splits) to to new refl is refl taken in
-    takes_one _ _ old (line.Done splits) (line.Done splits) to (place.Between (form.Log renews)) new refl refl (only_place true (place.Between (form.Log renews)) to (leads_to _ old _ to new one)) one
+pub one_done : (may : LogForm) (n : ℕ) (old new : Lines) (splits : ℕ) (l : LogLine) (to : Place)
+    → l ≡ line.Done splits → Takes (place.Steps may n 0) old (l ∷ []) to new
+    → Takes (place.Steps may n 0) old (line.Done splits ∷ []) (place_behind_done may) new
+one_done may n old new splits l to is taken =
+    let one : Takes (place.Steps may n 0) old (line.Done splits ∷ []) to new = takes_one _ _ old l (line.Done splits) to to new refl is refl taken in
+    takes_one _ _ old (line.Done splits) (line.Done splits) to (place_behind_done may) new refl refl (only_place true (place_behind_done may) to (leads_to _ old _ to new one)) one
 
 -- one event more
-pub event_on : (renews : Bool) (n : ℕ) (start old new : Lines) (events pushed : List Event) (event : Event)
-    → TakesEvents renews n start events old
-    → Takes (place.Steps renews n 0) old (event_lines event) (place.Steps renews n 0) new
-    → EventFits renews n event → pushed ≡ events ++ event ∷ []
-    → TakesEvents renews n start pushed new
-event_on renews n start old new events pushed event before one fits push = record {
-  taken = event_taken renews n start old new events pushed event before.taken one push;
-  fit = subst (λ (es : List Event). AllByRecursion (EventFits renews n) es) (sym push) (fit_on renews n events event before.fit fits);
+pub event_on : (may : LogForm) (n : ℕ) (start old new : Lines) (events pushed : List Event) (event : Event)
+    → TakesEvents may n start events old
+    → Takes (place.Steps may n 0) old (event_lines event) (place.Steps may n 0) new
+    → EventFits may.renews n event → pushed ≡ events ++ event ∷ []
+    → TakesEvents may n start pushed new
+event_on may n start old new events pushed event before one fits push = record {
+  taken = event_taken may n start old new events pushed event before.taken one push;
+  fit = subst (λ (es : List Event). AllByRecursion (EventFits may.renews n) es) (sym push) (fit_on may.renews n events event before.fit fits);
 }
 
 -- the number of splits behind them
-pub done_on : (renews : Bool) (n : ℕ) (start old new : Lines) (events : List Event) (splits : ℕ)
-    → TakesEvents renews n start events old
-    → Takes (place.Steps renews n 0) old (line.Done splits ∷ []) (place.Between (form.Log renews)) new
-    → Takes (place.Steps renews n 0) start (flat_map event_lines events ++ line.Done splits ∷ []) (place.Between (form.Log renews)) new
-done_on renews n start old new events splits before one = takes_on _ _ _ start old new (flat_map event_lines events) (line.Done splits ∷ []) before.taken one
+pub done_on : (may : LogForm) (n : ℕ) (start old new : Lines) (events : List Event) (splits : ℕ)
+    → TakesEvents may n start events old
+    → Takes (place.Steps may n 0) old (line.Done splits ∷ []) (place_behind_done may) new
+    → Takes (place.Steps may n 0) start (flat_map event_lines events ++ line.Done splits ∷ []) (place_behind_done may) new
+done_on may n start old new events splits before one = takes_on _ _ _ start old new (flat_map event_lines events) (line.Done splits ∷ []) before.taken one
 
 -- one row more of a renewal
-pub row_taken : (renews : Bool) (n left fewer : ℕ) (start old new : Lines) (rows pushed : List Row) (row : Row) (l : LogLine) (to : Place)
-    → Takes (place.Steps renews n n) start (map row_line rows) (place.Steps renews n left) old
-    → l ≡ row_line row → Takes (place.Steps renews n left) old (l ∷ []) to new
+pub row_taken : (may : LogForm) (n left fewer : ℕ) (start old new : Lines) (rows pushed : List Row) (row : Row) (l : LogLine) (to : Place)
+    → Takes (place.Steps may n n) start (map row_line rows) (place.Steps may n left) old
+    → l ≡ row_line row → Takes (place.Steps may n left) old (l ∷ []) to new
     → pushed ≡ rows ++ row ∷ [] → left ≡ suc fewer
-    → Takes (place.Steps renews n n) start (map row_line pushed) (place.Steps renews n fewer) new
-row_taken renews n left fewer start old new rows pushed row l to before is taken push less =
-    let one : Takes (place.Steps renews n left) old (row_line row ∷ []) to new = takes_one _ _ old l (row_line row) to to new refl is refl taken in
+    → Takes (place.Steps may n n) start (map row_line pushed) (place.Steps may n fewer) new
+row_taken may n left fewer start old new rows pushed row l to before is taken push less =
+    let one : Takes (place.Steps may n left) old (row_line row ∷ []) to new = takes_one _ _ old l (row_line row) to to new refl is refl taken in
     let down : left - 1 ≡ fewer = omega (arith, less) in
-    let behind : to ≡ place.Steps renews n fewer = behind_row renews n left row to (leads_to _ old _ to new one) ∙ ap (place.Steps renews n) down in
+    let behind : to ≡ place.Steps may n fewer = behind_row may n left row to (leads_to _ old _ to new one) ∙ ap (place.Steps may n) down in
     let mapped : map row_line rows ++ row_line row ∷ [] ≡ map row_line pushed = sym (ap (map row_line) push ∙ map-append row_line rows (row ∷ [])) in
-    subst (λ (ls : List LogLine). Takes (place.Steps renews n n) start ls (place.Steps renews n fewer) new) mapped
-    (subst (λ (p : Place). Takes (place.Steps renews n n) start (map row_line rows ++ row_line row ∷ []) p new) behind (takes_on _ _ _ start old new (map row_line rows) (row_line row ∷ []) before one))
+    subst (λ (ls : List LogLine). Takes (place.Steps may n n) start ls (place.Steps may n fewer) new) mapped
+    (subst (λ (p : Place). Takes (place.Steps may n n) start (map row_line rows ++ row_line row ∷ []) p new) behind (takes_on _ _ _ start old new (map row_line rows) (row_line row ∷ []) before one))
 
 -- the box of a renewal and its rows
-pub renewal_taken : (renews : Bool) (n : ℕ) (start mid new : Lines) (part : GridBox) (rows : List Row) (c : Corners)
+pub renewal_taken : (may : LogForm) (n : ℕ) (start mid new : Lines) (part : GridBox) (rows : List Row) (c : Corners)
     → corners_of part ≡ c
-    → Takes (place.Steps renews n 0) start (line.Renew c ∷ []) (place.Steps renews n n) mid
-    → Takes (place.Steps renews n n) mid (map row_line rows) (place.Steps renews n 0) new
-    → Takes (place.Steps renews n 0) start (event_lines (Renewed (rows_over part rows))) (place.Steps renews n 0) new
-renewal_taken renews n start mid new part rows c same first later =
-    subst (λ (d : Corners). Takes (place.Steps renews n 0) start (line.Renew d ∷ map row_line rows) (place.Steps renews n 0) new) (sym same)
+    → Takes (place.Steps may n 0) start (line.Renew c ∷ []) (place.Steps may n n) mid
+    → Takes (place.Steps may n n) mid (map row_line rows) (place.Steps may n 0) new
+    → Takes (place.Steps may n 0) start (event_lines (Renewed (rows_over part rows))) (place.Steps may n 0) new
+renewal_taken may n start mid new part rows c same first later =
+    subst (λ (d : Corners). Takes (place.Steps may n 0) start (line.Renew d ∷ map row_line rows) (place.Steps may n 0) new) (sym same)
     (takes_on _ _ _ start mid new (line.Renew c ∷ []) (map row_line rows) first later)
 
 -- ---- blocks
@@ -253,26 +253,29 @@ end_of None left = left.number
 end_of (Some o) left = o.line
 
 -- the body of an epoch's block
-pub paved_taken : (f : Form) (n : ℕ) (start mid new : Lines) (sats : List SatEntry) (corners said : Corners) (last : List LogLine)
+pub paved_taken : (f : Form) (n : ℕ) (start mid new : Lines) (sats : List SatEntry) (corners said : Corners) (last : List LogLine) (to : Place)
     → said ≡ corners
     → Takes (place.Satellites f n 0) start (map line.Sat sats ++ line.Root corners ∷ []) (place_behind_root f n) mid
-    → Takes (place_behind_root f n) mid last (place.Between f) new
-    → Takes (place.Satellites f n 0) start (map line.Sat sats ++ line.Root said ∷ last) (place.Between f) new
-paved_taken f n start mid new sats corners said last same first second =
-    subst (λ (c : Corners). Takes (place.Satellites f n 0) start (map line.Sat sats ++ line.Root c ∷ last) (place.Between f) new) (sym same)
-    (subst (λ (ls : List LogLine). Takes (place.Satellites f n 0) start ls (place.Between f) new) (append_assoc (map line.Sat sats) (line.Root corners ∷ []) last)
+    → Takes (place_behind_root f n) mid last to new
+    → Takes (place.Satellites f n 0) start (map line.Sat sats ++ line.Root said ∷ last) to new
+paved_taken f n start mid new sats corners said last to same first second =
+    subst (λ (c : Corners). Takes (place.Satellites f n 0) start (map line.Sat sats ++ line.Root c ∷ last) to new) (sym same)
+    (subst (λ (ls : List LogLine). Takes (place.Satellites f n 0) start ls to new) (append_assoc (map line.Sat sats) (line.Root corners ∷ []) last)
     (takes_on _ _ _ start mid new (map line.Sat sats ++ line.Root corners ∷ []) last first second))
 
 -- what follows lines that were taken
-pub takes_to_behind : (f : Form) (at mid : Place) (start now new : Lines) (ls : List LogLine) (next : Option Opening)
-    → Takes at start ls mid now → TakesTo f mid now [] next new → TakesTo f at start ls next new
-takes_to_behind f at mid start now new ls None before rest = record {
+pub takes_to_behind : (f : Form) (at mid : Place) (start now new : Lines) (ls more : List LogLine) (next : Option Opening)
+    → Takes at start ls mid now → TakesTo f mid now more next new → TakesTo f at start (ls ++ more) next new
+takes_to_behind f at mid start now new ls more None before rest = record {
   to = rest.to;
-  taken = subst (λ (all : List LogLine). Takes at start all rest.to new) (append-nil ls) (takes_on at mid rest.to start now new ls [] before rest.taken);
+  taken = takes_on at mid rest.to start now new ls more before rest.taken;
   may_end = rest.may_end;
   ended = rest.ended;
 }
-takes_to_behind f at mid start now new ls (Some o) before rest = record {
-  taken = takes_on at mid (block_place f o.few o.header) start now new ls (first_line o.few o.header ∷ []) before rest.taken;
+takes_to_behind f at mid start now new ls more (Some o) before rest = record {
+  taken =
+      let last = first_line o.few o.header ∷ [] in
+      subst (λ (all : List LogLine). Takes at start all (block_place f o.few o.header) new) (sym (append_assoc ls more last))
+      (takes_on at mid (block_place f o.few o.header) start now new ls (more ++ last) before rest.taken);
   number = rest.number;
 }

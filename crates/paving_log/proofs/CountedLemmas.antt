@@ -1,5 +1,5 @@
 -- Steps that were counted as their lines were taken: what the lines tell.
-use Rattle.std.proofs.Common.{◌≡◌, ℕ, ◌+◌, ◌≤◌, Bool, cond, List, [], ◌∷◌, ◌++◌, length, map, refl, sym, ap, subst, ◌∙◌, arith}
+use Rattle.std.proofs.Common.{◌≡◌, ℕ, ◌+◌, ◌≤◌, cond, List, [], ◌∷◌, ◌++◌, length, map, refl, sym, ap, subst, ◌∙◌, arith}
 use Rattle.std.specs.List.{flat_map, AllByRecursion, count_by}
 use Rattle.std.proofs.lemmas.List.{length-append}
 use Rattle.std.proofs.lemmas.List.Sums.{count_by-le-length, sum_by-append}
@@ -11,6 +11,7 @@ use Rattle.step_lines.specs.Texts.{AnyLine, OfStep, Other, AnyFits, steps_among,
 use Rattle.step_lines.specs.Texts.{text_of as told_text}
 use Rattle.log_lines.specs.declared.line.Corners.{Corners}
 use Rattle.log_lines.specs.declared.line.Form.TheVariants as form
+use Rattle.log_lines.specs.declared.line.LogForm.{LogForm}
 use Rattle.log_lines.specs.declared.line.LogLine.{LogLine}
 use Rattle.log_lines.specs.declared.line.LogLine.TheVariants as line
 use Rattle.log_lines.specs.declared.line.Place.TheVariants as place
@@ -19,8 +20,9 @@ use Rattle.paving_log.specs.declared.renewal.Renewal.{Renewal}
 use Rattle.log_lines.specs.Lines.{line_text, text_of}
 use Rattle.paving_log.specs.Renewing.{Rise, new_rows, events_from}
 use Rattle.log_lines.specs.Rows.{RowFits, corners_of}
-use Rattle.paving_log.specs.Taking.{Takes, HasBetween}
-use Rattle.log_lines.specs.Text.{row_line, event_lines, EventFits, ClosingFits}
+use Rattle.paving_log.specs.Taking.{Takes, HasBetween, AllStepsFit}
+use Rattle.log_lines.specs.Order.{place_behind_done}
+use Rattle.log_lines.specs.Text.{row_line, event_lines, EventFits}
 use Rattle.paving_log.proofs.BlockLemmas.{TakesEvents, done_on}
 use Rattle.paving_log.proofs.EventLemmas.{rise_to, rise_on, step_behind, renewal_behind, steps_in_events, steps_le_lines}
 use Rattle.paving_log.proofs.FitLemmas.{step_more, renewal_more}
@@ -57,12 +59,12 @@ rows_fit : (rows : List Row) (more : List AnyLine) → AllByRecursion RowFits ro
 rows_fit [] more fit later = later
 rows_fit (row ∷ rows) more fit later = ((line_end (row_line row) fit.0, refl), rows_fit rows more fit.1 later)
 
-told_fit : (renews : Bool) (n : ℕ) (events : List Event) → AllByRecursion (EventFits renews n) events
+told_fit : (may : LogForm) (n : ℕ) (events : List Event) → AllByRecursion (EventFits may.renews n) events
     → AllByRecursion AnyFits (told events)
-told_fit renews n [] fit = tt
-told_fit renews n (Made step ∷ events) fit = (fit.0, told_fit renews n events fit.1)
-told_fit renews n (Renewed new ∷ events) fit =
-    ((line_end (line.Renew (corners_of new.part)) fit.0.1, refl), rows_fit new.rows (told events) fit.0.3 (told_fit renews n events fit.1))
+told_fit may n [] fit = tt
+told_fit may n (Made step ∷ events) fit = (fit.0, told_fit may n events fit.1)
+told_fit may n (Renewed new ∷ events) fit =
+    ((line_end (line.Renew (corners_of new.part)) fit.0.1, refl), rows_fit new.rows (told events) fit.0.3 (told_fit may n events fit.1))
 
 rows_tell : (rows : List Row) (more : List AnyLine)
     → steps_among (told_rows rows more) ≡ steps_among more
@@ -78,53 +80,53 @@ told_made (Renewed new ∷ events) = rows_tell new.rows (told events) ∙ told_m
 
 -- so many steps, of which so many close a box inside or at the edge, and these renewals among them,
 -- were taken from the front
-pub record TakesCounted (renews : Bool) (n : ℕ) (start : Lines) (count kept : ℕ) (renewals : List Renewal) (left : Lines) : Type 0 where
+pub record TakesCounted (may : LogForm) (n : ℕ) (start : Lines) (count kept : ℕ) (renewals : List Renewal) (left : Lines) : Type 0 where
   pub steps : List Step
-  pub taken : TakesEvents renews n start (events_from 0 steps renewals) left
+  pub taken : TakesEvents may n start (events_from 0 steps renewals) left
   pub many : length steps ≡ count
   pub closing : count_by is_kept_step steps ≡ kept
   pub places : Rise 0 renewals count
 
 -- no more of them close a box than there are
-pub few_kept : (renews : Bool) (n : ℕ) (start : Lines) (count kept : ℕ) (renewals : List Renewal) (left : Lines)
-    → TakesCounted renews n start count kept renewals left → kept ≤ count
-few_kept renews n start count kept renewals left so_far =
+pub few_kept : (may : LogForm) (n : ℕ) (start : Lines) (count kept : ℕ) (renewals : List Renewal) (left : Lines)
+    → TakesCounted may n start count kept renewals left → kept ≤ count
+few_kept may n start count kept renewals left so_far =
     omega (arith, count_by-le-length is_kept_step so_far.steps, so_far.many, so_far.closing)
 
 -- no more steps than numbers of lines
-pub few_counted : (renews : Bool) (n : ℕ) (start : Lines) (count kept : ℕ) (renewals : List Renewal) (left : Lines)
-    → TakesCounted renews n start count kept renewals left → count ≤ 4000000001
-few_counted renews n start count kept renewals left so_far =
+pub few_counted : (may : LogForm) (n : ℕ) (start : Lines) (count kept : ℕ) (renewals : List Renewal) (left : Lines)
+    → TakesCounted may n start count kept renewals left → count ≤ 4000000001
+few_counted may n start count kept renewals left so_far =
     omega (arith, so_far.taken.taken.number, left.room, steps_le_lines so_far.steps renewals, so_far.many)
 
 abbrev one_if_kept : Step → ℕ
 one_if_kept s = cond (is_kept_step s) 1 0
 
-pub step_counted : (renews : Bool) (n : ℕ) (start old new : Lines) (count kept : ℕ) (renewals : List Renewal) (s : Step)
-    → TakesCounted renews n start count kept renewals old
-    → Takes (place.Steps renews n 0) old (line.Step s ∷ []) (place.Steps renews n 0) new
-    → TakesCounted renews n start (count + 1) (kept + cond (is_kept_step s) 1 0) renewals new
-step_counted renews n start old new count kept renewals s before one =
+pub step_counted : (may : LogForm) (n : ℕ) (start old new : Lines) (count kept : ℕ) (renewals : List Renewal) (s : Step)
+    → TakesCounted may n start count kept renewals old
+    → Takes (place.Steps may n 0) old (line.Step s ∷ []) (place.Steps may n 0) new
+    → TakesCounted may n start (count + 1) (kept + cond (is_kept_step s) 1 0) renewals new
+step_counted may n start old new count kept renewals s before one =
     let rise : Rise 0 renewals (0 + length before.steps) = rise_to 0 count (0 + length before.steps) renewals before.places (omega (arith, before.many)) in
     record {
       steps = before.steps ++ s ∷ [];
-      taken = step_more renews n start old new (events_from 0 before.steps renewals) (events_from 0 (before.steps ++ s ∷ []) renewals) s before.taken one (step_behind 0 before.steps s renewals rise);
+      taken = step_more may n start old new (events_from 0 before.steps renewals) (events_from 0 (before.steps ++ s ∷ []) renewals) s before.taken one (step_behind 0 before.steps s renewals rise);
       many = omega (arith, length-append before.steps (s ∷ []), before.many);
       closing = omega (arith, sum_by-append one_if_kept before.steps (s ∷ []), before.closing);
       places = rise_to 0 count (count + 1) renewals before.places (omega arith);
     }
 
-pub renewal_counted : (renews : Bool) (n : ℕ) (start old mid new : Lines) (count kept : ℕ) (renewals pushed : List Renewal) (r : Renewal) (c : Corners)
+pub renewal_counted : (may : LogForm) (n : ℕ) (start old mid new : Lines) (count kept : ℕ) (renewals pushed : List Renewal) (r : Renewal) (c : Corners)
     → corners_of (new_rows r).part ≡ c → r.at ≡ count → pushed ≡ renewals ++ r ∷ []
-    → TakesCounted renews n start count kept renewals old
-    → Takes (place.Steps renews n 0) old (line.Renew c ∷ []) (place.Steps renews n n) mid
-    → Takes (place.Steps renews n n) mid (map row_line r.rows.items) (place.Steps renews n 0) new
-    → length r.rows.items ≡ n → TakesCounted renews n start count kept pushed new
-renewal_counted renews n start old mid new count kept renewals pushed r c same at push before first later many =
+    → TakesCounted may n start count kept renewals old
+    → Takes (place.Steps may n 0) old (line.Renew c ∷ []) (place.Steps may n n) mid
+    → Takes (place.Steps may n n) mid (map row_line r.rows.items) (place.Steps may n 0) new
+    → length r.rows.items ≡ n → TakesCounted may n start count kept pushed new
+renewal_counted may n start old mid new count kept renewals pushed r c same at push before first later many =
     let rise : Rise 0 renewals (0 + length before.steps) = rise_to 0 count (0 + length before.steps) renewals before.places (omega (arith, before.many)) in
-    subst (λ (rs : List Renewal). TakesCounted renews n start count kept rs new) (sym push) (record {
+    subst (λ (rs : List Renewal). TakesCounted may n start count kept rs new) (sym push) (record {
       steps = before.steps;
-      taken = renewal_more renews n start old mid new (events_from 0 before.steps renewals) (events_from 0 before.steps (renewals ++ r ∷ [])) (new_rows r).part r.rows.items c
+      taken = renewal_more may n start old mid new (events_from 0 before.steps renewals) (events_from 0 before.steps (renewals ++ r ∷ [])) (new_rows r).part r.rows.items c
           same before.taken first later many (renewal_behind 0 before.steps renewals r rise (omega (arith, at, before.many)));
       many = before.many;
       closing = before.closing;
@@ -133,28 +135,28 @@ renewal_counted renews n start old mid new count kept renewals pushed r c same a
 
 -- ---- what is between
 
-abbrev lines_counted : (renews : Bool) (n : ℕ) (events : List Event)
-    → AllByRecursion (EventFits renews n) events → AreLines (text_of (flat_map event_lines events))
-lines_counted renews n events fit = record { lines = told events; parts = told_texts events; fit = told_fit renews n events fit }
+abbrev lines_counted : (may : LogForm) (n : ℕ) (events : List Event)
+    → AllByRecursion (EventFits may.renews n) events → AreLines (text_of (flat_map event_lines events))
+lines_counted may n events fit = record { lines = told events; parts = told_texts events; fit = told_fit may n events fit }
 
-counted_steps : (renews : Bool) (n : ℕ) (steps : List Step) (renewals : List Renewal)
-    → (fit : AllByRecursion (EventFits renews n) (events_from 0 steps renewals))
-    → told_steps (text_of (flat_map event_lines (events_from 0 steps renewals))) (lines_counted renews n (events_from 0 steps renewals) fit)
+counted_steps : (may : LogForm) (n : ℕ) (steps : List Step) (renewals : List Renewal)
+    → (fit : AllByRecursion (EventFits may.renews n) (events_from 0 steps renewals))
+    → told_steps (text_of (flat_map event_lines (events_from 0 steps renewals))) (lines_counted may n (events_from 0 steps renewals) fit)
     ≡ steps
 unfolding told_steps
-counted_steps renews n steps renewals fit = told_made (events_from 0 steps renewals) ∙ steps_in_events 0 steps renewals
+counted_steps may n steps renewals fit = told_made (events_from 0 steps renewals) ∙ steps_in_events 0 steps renewals
 
-pub between : (renews : Bool) (n : ℕ) (start left : Lines) (count kept : ℕ) (renewals : List Renewal)
-    → TakesCounted renews n start count kept renewals left
+pub between : (may : LogForm) (n : ℕ) (start left : Lines) (count kept : ℕ) (renewals : List Renewal)
+    → TakesCounted may n start count kept renewals left
     → HasBetween start.rest.now left.rest.now count kept
-between renews n start left count kept renewals so_far =
+between may n start left count kept renewals so_far =
     let events = events_from 0 so_far.steps renewals in
-    let same = counted_steps renews n so_far.steps renewals so_far.taken.fit in
+    let same = counted_steps may n so_far.steps renewals so_far.taken.fit in
     record {
       part = text_of (flat_map event_lines events);
       parts = so_far.taken.taken.parts;
       counted = (
-        lines_counted renews n events so_far.taken.fit,
+        lines_counted may n events so_far.taken.fit,
         record {
           all = ap length same ∙ so_far.many;
           closing = ap (count_by is_kept_step) same ∙ so_far.closing;
@@ -163,37 +165,37 @@ between renews n start left count kept renewals so_far =
     }
 
 -- the steps that are found there are those that were counted
-pub found_between : (renews : Bool) (n : ℕ) (start left : Lines) (count kept : ℕ) (renewals : List Renewal) (found : List Step)
-    → (so_far : TakesCounted renews n start count kept renewals left)
+pub found_between : (may : LogForm) (n : ℕ) (start left : Lines) (count kept : ℕ) (renewals : List Renewal) (found : List Step)
+    → (so_far : TakesCounted may n start count kept renewals left)
     → ((part : List ℕ) → start.rest.now ≡ part ++ left.rest.now → (lines : AreLines part) → found ≡ told_steps part lines)
     → found ≡ so_far.steps
-found_between renews n start left count kept renewals found so_far each =
+found_between may n start left count kept renewals found so_far each =
     let events = events_from 0 so_far.steps renewals in
-    each (text_of (flat_map event_lines events)) so_far.taken.taken.parts (lines_counted renews n events so_far.taken.fit)
-    ∙ counted_steps renews n so_far.steps renewals so_far.taken.fit
+    each (text_of (flat_map event_lines events)) so_far.taken.taken.parts (lines_counted may n events so_far.taken.fit)
+    ∙ counted_steps may n so_far.steps renewals so_far.taken.fit
 
 -- the events of these steps, with the renewals as they are stored
 stored_events : (found steps : List Step) (renewals stored : List Renewal) → stored ≡ renewals → found ≡ steps
     → events_from 0 steps renewals ≡ events_from 0 found stored
 stored_events found steps renewals stored same one = rw (same, one) refl
 
-pub places_between : (renews : Bool) (n : ℕ) (start left : Lines) (count kept : ℕ) (renewals stored : List Renewal) (found : List Step)
-    → (so_far : TakesCounted renews n start count kept renewals left) → stored ≡ renewals → found ≡ so_far.steps
+pub places_between : (may : LogForm) (n : ℕ) (start left : Lines) (count kept : ℕ) (renewals stored : List Renewal) (found : List Step)
+    → (so_far : TakesCounted may n start count kept renewals left) → stored ≡ renewals → found ≡ so_far.steps
     → Rise 0 stored (length found)
-places_between renews n start left count kept renewals stored found so_far same one =
+places_between may n start left count kept renewals stored found so_far same one =
     subst (λ (rs : List Renewal). Rise 0 rs (length found)) (sym same) (rise_to 0 count (length found) renewals so_far.places (omega (arith, ap length one, so_far.many)))
 
-pub done_between : (renews : Bool) (n : ℕ) (start left new : Lines) (count kept : ℕ) (renewals stored : List Renewal) (found : List Step) (splits : ℕ)
-    → (so_far : TakesCounted renews n start count kept renewals left) → stored ≡ renewals → found ≡ so_far.steps
-    → Takes (place.Steps renews n 0) left (line.Done splits ∷ []) (place.Between (form.Log renews)) new
-    → Takes (place.Steps renews n 0) start (flat_map event_lines (events_from 0 found stored) ++ line.Done splits ∷ []) (place.Between (form.Log renews)) new
-done_between renews n start left new count kept renewals stored found splits so_far same one done =
-    subst (λ (es : List Event). Takes (place.Steps renews n 0) start (flat_map event_lines es ++ line.Done splits ∷ []) (place.Between (form.Log renews)) new)
-    (stored_events found so_far.steps renewals stored same one) (done_on renews n start left new (events_from 0 so_far.steps renewals) splits so_far.taken done)
+pub done_between : (may : LogForm) (n : ℕ) (start left new : Lines) (count kept : ℕ) (renewals stored : List Renewal) (found : List Step) (splits : ℕ)
+    → (so_far : TakesCounted may n start count kept renewals left) → stored ≡ renewals → found ≡ so_far.steps
+    → Takes (place.Steps may n 0) left (line.Done splits ∷ []) (place_behind_done may) new
+    → Takes (place.Steps may n 0) start (flat_map event_lines (events_from 0 found stored) ++ line.Done splits ∷ []) (place_behind_done may) new
+done_between may n start left new count kept renewals stored found splits so_far same one done =
+    subst (λ (es : List Event). Takes (place.Steps may n 0) start (flat_map event_lines es ++ line.Done splits ∷ []) (place_behind_done may) new)
+    (stored_events found so_far.steps renewals stored same one) (done_on may n start left new (events_from 0 so_far.steps renewals) splits so_far.taken done)
 
-pub fit_between : (renews : Bool) (n : ℕ) (start left new : Lines) (count kept : ℕ) (renewals stored : List Renewal) (found : List Step) (splits : ℕ)
-    → (so_far : TakesCounted renews n start count kept renewals left) → stored ≡ renewals → found ≡ so_far.steps
-    → Takes (place.Steps renews n 0) left (line.Done splits ∷ []) (place.Between (form.Log renews)) new
-    → ClosingFits (form.Log renews) n (events_from 0 found stored) splits
-fit_between renews n start left new count kept renewals stored found splits so_far same one done =
-    (subst (AllByRecursion (EventFits renews n)) (stored_events found so_far.steps renewals stored same one) so_far.taken.fit, done.leads.0)
+pub fit_between : (may : LogForm) (n : ℕ) (start left new : Lines) (count kept : ℕ) (renewals stored : List Renewal) (found : List Step) (splits : ℕ)
+    → (so_far : TakesCounted may n start count kept renewals left) → stored ≡ renewals → found ≡ so_far.steps
+    → Takes (place.Steps may n 0) left (line.Done splits ∷ []) (place_behind_done may) new
+    → AllStepsFit (form.Log may) n (events_from 0 found stored) splits
+fit_between may n start left new count kept renewals stored found splits so_far same one done =
+    (subst (AllByRecursion (EventFits may.renews n)) (stored_events found so_far.steps renewals stored same one) so_far.taken.fit, done.leads.0)

@@ -5,8 +5,6 @@ use Rattle.std.proofs.lemmas.List.{length-append, length-map, length-drop, take-
 use Rattle.sat_model.specs.declared.steps.Step.{Step}
 use Rattle.sat_model.specs.Events.{Event, Made, Renewed, steps_in, renewals_in, made_all, lines_of_all}
 use Rattle.sat_model.proofs.EventLemmas.{steps_of_made, steps_behind, made_behind}
-use Rattle.log_lines.specs.declared.line.LogLine.{LogLine}
-use Rattle.log_lines.specs.declared.line.LogLine.TheVariants as line
 use Rattle.paving_log.specs.declared.renewal.Renewal.{Renewal}
 use Rattle.paving_log.specs.Renewing.{Rise, new_rows, events_from}
 use Rattle.log_lines.specs.Text.{row_line, event_lines, EventFits}

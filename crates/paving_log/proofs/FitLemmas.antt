@@ -11,6 +11,7 @@ use Rattle.log_lines.specs.declared.line.Corners.{Corners}
 use Rattle.sat_model.specs.declared.rows.SatEntry.{SatEntry}
 use Rattle.log_lines.specs.declared.line.Form.{Form}
 use Rattle.log_lines.specs.declared.line.Header.{Header}
+use Rattle.log_lines.specs.declared.line.LogForm.{LogForm}
 use Rattle.log_lines.specs.declared.line.LogLine.{LogLine}
 use Rattle.log_lines.specs.declared.line.LogLine.TheVariants as line
 use Rattle.log_lines.specs.declared.line.Place.{Place}
@@ -73,11 +74,11 @@ sat_parts f n k (e ∷ sats) tail to le leads =
     }
 
 -- the rows of a renewal
-pub rows_parts : (renews : Bool) (n left : ℕ) (rows : List Row) (to : Place)
-    → Leads (place.Steps renews n left) (map row_line rows) to → AllByRecursion RowFits rows
-rows_parts renews n left [] to leads = tt
-rows_parts renews n left (row ∷ rows) to leads =
-    (leads.0, rows_parts renews n (left - 1) rows to (subst (λ (p : Place). Leads p (map row_line rows) to) (behind_row renews n left row leads.1 leads.2) leads.3))
+pub rows_parts : (may : LogForm) (n left : ℕ) (rows : List Row) (to : Place)
+    → Leads (place.Steps may n left) (map row_line rows) to → AllByRecursion RowFits rows
+rows_parts may n left [] to leads = tt
+rows_parts may n left (row ∷ rows) to leads =
+    (leads.0, rows_parts may n (left - 1) rows to (subst (λ (p : Place). Leads p (map row_line rows) to) (behind_row may n left row leads.1 leads.2) leads.3))
 
 -- the satellites of a block of few
 pub few_fit : (f : Form) (start new : Lines) (sats : List SatEntry) (next : Option Opening)
@@ -106,20 +107,20 @@ opening_fits f at start new lines o taken = header_fits o.few o.header (last_fit
 
 -- ---- steps and renewals
 
-pub step_more : (renews : Bool) (n : ℕ) (start old new : Lines) (events pushed : List Event) (s : Step)
-    → TakesEvents renews n start events old
-    → Takes (place.Steps renews n 0) old (line.Step s ∷ []) (place.Steps renews n 0) new
-    → pushed ≡ events ++ Made s ∷ [] → TakesEvents renews n start pushed new
-step_more renews n start old new events pushed s before one push = event_on renews n start old new events pushed (Made s) before one one.leads.0 push
+pub step_more : (may : LogForm) (n : ℕ) (start old new : Lines) (events pushed : List Event) (s : Step)
+    → TakesEvents may n start events old
+    → Takes (place.Steps may n 0) old (line.Step s ∷ []) (place.Steps may n 0) new
+    → pushed ≡ events ++ Made s ∷ [] → TakesEvents may n start pushed new
+step_more may n start old new events pushed s before one push = event_on may n start old new events pushed (Made s) before one one.leads.0 push
 
-pub renewal_more : (renews : Bool) (n : ℕ) (start old mid new : Lines) (events pushed : List Event) (part : GridBox) (rows : List Row) (c : Corners)
+pub renewal_more : (may : LogForm) (n : ℕ) (start old mid new : Lines) (events pushed : List Event) (part : GridBox) (rows : List Row) (c : Corners)
     → corners_of part ≡ c
-    → TakesEvents renews n start events old
-    → Takes (place.Steps renews n 0) old (line.Renew c ∷ []) (place.Steps renews n n) mid
-    → Takes (place.Steps renews n n) mid (map row_line rows) (place.Steps renews n 0) new
+    → TakesEvents may n start events old
+    → Takes (place.Steps may n 0) old (line.Renew c ∷ []) (place.Steps may n n) mid
+    → Takes (place.Steps may n n) mid (map row_line rows) (place.Steps may n 0) new
     → length rows ≡ n → pushed ≡ events ++ Renewed (rows_over part rows) ∷ []
-    → TakesEvents renews n start pushed new
-renewal_more renews n start old mid new events pushed part rows c same before first later many push =
-    let allowed = (behind_renew renews n c first.leads.1 first.leads.2).0 in
-    let fits : EventFits renews n (Renewed (rows_over part rows)) = (allowed, subst CornersFit (sym same) first.leads.0, many, rows_parts renews n n rows _ later.leads) in
-    event_on renews n start old new events pushed (Renewed (rows_over part rows)) before (renewal_taken renews n old mid new part rows c same first later) fits push
+    → TakesEvents may n start pushed new
+renewal_more may n start old mid new events pushed part rows c same before first later many push =
+    let allowed = (behind_renew may n c first.leads.1 first.leads.2).0 in
+    let fits : EventFits may.renews n (Renewed (rows_over part rows)) = (allowed, subst CornersFit (sym same) first.leads.0, many, rows_parts may n n rows _ later.leads) in
+    event_on may n start old new events pushed (Renewed (rows_over part rows)) before (renewal_taken may n old mid new part rows c same first later) fits push

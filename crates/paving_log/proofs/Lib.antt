@@ -11,3 +11,5 @@ pub mod KeptParts
 pub mod EventLemmas
 pub mod EndLemmas
 pub mod CountedLemmas
+pub mod PartLemmas
+pub mod BoundLemmas

@@ -8,6 +8,9 @@ use Rattle.sat_model.specs.declared.rows.SatEntry.{SatEntry}
 use Rattle.sat_model.specs.declared.rows.SatEntry.TheVariants as entry
 use Rattle.sat_model.specs.declared.rules.Rules.{Rules}
 use Rattle.grid_model.specs.Boxes.{GridBox}
+use Rattle.sat_model.specs.declared.half_spaces.HalfSpace.{HalfSpace}
+use Rattle.sat_model.specs.declared.row_sums.RowSum.{RowSum}
+use Rattle.sat_model.specs.Bounds.{BoundValue, lines_of_bounds}
 use Rattle.sat_model.specs.Events.{Event, Made, Renewed, RowsOver}
 use Rattle.sat_model.specs.Logs.{Body, Block, LogValue, is_few, lines_of_body, lines_in, IsNumberedFrom}
 use Rattle.log_lines.specs.declared.line.Corners.{Corners}
@@ -16,14 +19,15 @@ use Rattle.log_lines.specs.declared.line.Form.TheVariants as form
 use Rattle.log_lines.specs.declared.line.Kind.{Kind}
 use Rattle.log_lines.specs.declared.line.Kind.TheVariants as kind
 use Rattle.log_lines.specs.declared.line.Header.{Header}
+use Rattle.log_lines.specs.declared.line.LogForm.{LogForm}
 use Rattle.log_lines.specs.declared.line.LogLine.{LogLine}
 use Rattle.log_lines.specs.declared.line.LogLine.TheVariants as line
 use Rattle.log_lines.specs.declared.line.Place.TheVariants as place
 use Rattle.paving_log.specs.declared.log.LogError.{LogError}
 use Rattle.log_lines.specs.Rows.{corners_of}
 use Rattle.log_lines.specs.Lines.{limits_of}
-use Rattle.log_lines.specs.Order.{has_pairs, may_renew, form_of}
-use Rattle.log_lines.specs.Text.{first_line, header_of, row_line, event_lines, closing_lines, paved_lines, block_lines, head_lines, log_lines, ClosingFits, BodyFits, BlockFits, IsLogText, IsUnrenewed, AreUnrenewed}
+use Rattle.log_lines.specs.Order.{has_pairs, log_form, form_of}
+use Rattle.log_lines.specs.Text.{first_line, header_of, row_line, event_lines, bound_lines, closing_lines, paved_lines, block_lines, head_lines, log_lines, ClosingFits, BodyFits, BlockFits, IsLogText, IsUnrenewed, AreUnrenewed}
 use Rattle.paving_log.specs.RowsText.{IsNumberedIn, IsSpelling}
 use Rattle.paving_log.specs.Faults.{FaultFrom, FirstFault}
 use Rattle.paving_log.specs.declared.log.Log.{Log}
@@ -133,15 +137,84 @@ same_events (Renewed s ∷ events) (Renewed o ∷ others) m n tail more e =
         → ls ≡ ms
     behind_box x y ls ms e = cc
 
+-- ---- bounds
+
+-- the first of the lines is none of a bound
+abbrev IsNoBound : LogLine → Type 0
+IsNoBound (line.Bound half sums) = ⊥
+IsNoBound _ = Unit {0}
+
+abbrev NoBound : List LogLine → Type 0
+NoBound [] = Unit {0}
+NoBound (l ∷ lines) = IsNoBound l
+
+bound_first : (half : HalfSpace) (sums : ℕ) (lines more : List LogLine) → NoBound lines
+    → lines ≡ line.Bound half sums ∷ more → ⊥
+bound_first half sums [] more none same = cc
+bound_first half sums (l ∷ lines) more none same = let first : l ≡ line.Bound half sums = cc in subst IsNoBound first none
+
+-- as many sums before the same rest
+same_sums : (sums others : List RowSum) (tail more : List LogLine) → length sums ≡ length others
+    → map line.By sums ++ tail ≡ map line.By others ++ more → (sums ≡ others) × (tail ≡ more)
+same_sums [] [] tail more long e = (refl, e)
+same_sums [] (o ∷ others) tail more long e = absurd (omega (arith, long))
+same_sums (s ∷ sums) [] tail more long e = absurd (omega (arith, long))
+same_sums (s ∷ sums) (o ∷ others) tail more long e =
+    let rest : map line.By sums ++ tail ≡ map line.By others ++ more = cc in
+    let one : s ≡ o = cc in
+    let later = same_sums sums others tail more (omega (arith, long)) rest in
+    (ap (λ (t : List RowSum). s ∷ t) later.0 ∙ ap (λ (x : RowSum). x ∷ others) one, later.1)
+
+same_bound : (bound other : BoundValue) → bound.half ≡ other.half → bound.sums ≡ other.sums
+    → bound ≡ other
+same_bound bound other half sums = λ i. record { half = half i; sums = sums i }
+
+same_bounds : (bounds others : List BoundValue) (tail more : List LogLine) → NoBound tail → NoBound more
+    → flat_map bound_lines bounds ++ tail ≡ flat_map bound_lines others ++ more
+    → (bounds ≡ others) × (tail ≡ more)
+same_bounds [] [] tail more f g e = (refl, e)
+same_bounds [] (o ∷ others) tail more f g e = absurd (bound_first o.half (length o.sums) tail _ f e)
+same_bounds (b ∷ bounds) [] tail more f g e = absurd (bound_first b.half (length b.sums) more _ g (sym e))
+same_bounds (b ∷ bounds) (o ∷ others) tail more f g e =
+    let regrouped = sym (append_assoc (map line.By b.sums) (flat_map bound_lines bounds) tail) ∙ behind_first _ _ _ _ _ _ e ∙ append_assoc (map line.By o.sums) (flat_map bound_lines others) more in
+    let half : b.half ≡ o.half = first_half _ _ _ _ _ _ e in
+    let long : length b.sums ≡ length o.sums = first_count _ _ _ _ _ _ e in
+    let sums = same_sums b.sums o.sums _ _ long regrouped in
+    let later = same_bounds bounds others tail more f g sums.1 in
+    (ap (λ (t : List BoundValue). b ∷ t) later.0 ∙ ap (λ (x : BoundValue). x ∷ others) (same_bound b o half sums.0), later.1)
+  where
+    first_half : (h k : HalfSpace) (m n : ℕ) (ls ms : List LogLine)
+        → line.Bound h m ∷ ls ≡ line.Bound k n ∷ ms → h ≡ k
+    first_half h k m n ls ms e = cc
+
+    first_count : (h k : HalfSpace) (m n : ℕ) (ls ms : List LogLine)
+        → line.Bound h m ∷ ls ≡ line.Bound k n ∷ ms → m ≡ n
+    first_count h k m n ls ms e = cc
+
+    behind_first : (h k : HalfSpace) (m n : ℕ) (ls ms : List LogLine)
+        → line.Bound h m ∷ ls ≡ line.Bound k n ∷ ms → ls ≡ ms
+    behind_first h k m n ls ms e = cc
+
 -- what stands behind two roots
-same_closing : (f : Form) (k j : ℕ) (events others : List Event) (m n : ℕ) (tail more : List LogLine)
-    → ClosingFits f k events m → ClosingFits f j others n
-    → closing_lines f events m ++ tail ≡ closing_lines f others n ++ more
-    → IsSamePaving events others m n tail more
-same_closing (form.Log renews) k j events others m n tail more x y e =
-    same_events events others m n tail more
-    (sym (append_assoc (flat_map event_lines events) (line.Done m ∷ []) tail) ∙ e ∙ append_assoc (flat_map event_lines others) (line.Done n ∷ []) more)
-same_closing form.Rows k j events others m n tail more x y e = record { same = x.0 ∙ sym y.0; done = x.1 ∙ sym y.1; behind = e }
+record IsSameClosing (events others : List Event) (m n : ℕ) (bounds said : List BoundValue) (tail more : List LogLine) : Type 0 where
+  same : events ≡ others
+  done : m ≡ n
+  listed : bounds ≡ said
+  behind : tail ≡ more
+
+same_closing : (f : Form) (k j : ℕ) (events others : List Event) (m n : ℕ) (bounds said : List BoundValue) (tail more : List LogLine)
+    → NoBound tail → NoBound more
+    → ClosingFits f k events m bounds → ClosingFits f j others n said
+    → closing_lines f events m bounds ++ tail ≡ closing_lines f others n said ++ more
+    → IsSameClosing events others m n bounds said tail more
+same_closing (form.Log may) k j events others m n bounds said tail more none clear x y e =
+    let paving = same_events events others m n _ _
+    (sym (append_assoc (flat_map event_lines events) (line.Done m ∷ flat_map bound_lines bounds) tail) ∙ e
+    ∙ append_assoc (flat_map event_lines others) (line.Done n ∷ flat_map bound_lines said) more) in
+    let listed = same_bounds bounds said tail more none clear paving.behind in
+    record { same = paving.same; done = paving.done; listed = listed.0; behind = listed.1 }
+same_closing form.Rows k j events others m n bounds said tail more none clear x y e =
+    record { same = x.0 ∙ sym y.0; done = x.1 ∙ sym y.1; listed = x.2 ∙ sym y.2; behind = e }
 
 -- the parts of two blocks behind the satellites
 record IsSameBody (body other : Option Body) (tail more : List LogLine) : Type 0 where
@@ -149,16 +222,17 @@ record IsSameBody (body other : Option Body) (tail more : List LogLine) : Type 0
   behind : tail ≡ more
 
 same_body : (f : Form) (b c : Block) (body other : Option Body) (tail more : List LogLine)
+    → NoBound tail → NoBound more
     → is_none body ≡ is_none other → BodyFits f b body → BodyFits f c other
     → paved_lines f body ++ tail ≡ paved_lines f other ++ more → IsSameBody body other tail more
-same_body f b c None None tail more few x y e = record { same = refl; behind = e }
-same_body f b c None (Some other) tail more few x y e = cc
-same_body f b c (Some body) None tail more few x y e = cc
-same_body f b c (Some body) (Some other) tail more few x y e =
+same_body f b c None None tail more none clear few x y e = record { same = refl; behind = e }
+same_body f b c None (Some other) tail more none clear few x y e = cc
+same_body f b c (Some body) None tail more none clear few x y e = cc
+same_body f b c (Some body) (Some other) tail more none clear few x y e =
     let corners : corners_of body.root ≡ corners_of other.root = first_root (corners_of body.root) (corners_of other.root) _ _ e in
     let box = same_box body.root other.root corners in
-    let paving = same_closing f b.n c.n body.events other.events body.done other.done tail more x.1 y.1 (behind_root (corners_of body.root) (corners_of other.root) _ _ e) in
-    record { same = λ i. Some (record { root = box i; events = paving.same i; done = paving.done i }); behind = paving.behind }
+    let paving = same_closing f b.n c.n body.events other.events body.done other.done body.bounds other.bounds tail more none clear x.1 y.1 (behind_root (corners_of body.root) (corners_of other.root) _ _ e) in
+    record { same = λ i. Some (record { root = box i; events = paving.same i; done = paving.done i; bounds = paving.listed i }); behind = paving.behind }
   where
     first_root : (x y : Corners) (ls ms : List LogLine) → line.Root x ∷ ls ≡ line.Root y ∷ ms
         → x ≡ y
@@ -193,19 +267,27 @@ no_sat_blocks : (f : Form) (blocks : List Block) → NoSat (flat_map (block_line
 no_sat_blocks f [] = tt
 no_sat_blocks f (b ∷ blocks) = no_sat_first (is_few b) (header_of b)
 
+no_bound_first : (few : Bool) (h : Header) → IsNoBound (first_line few h)
+no_bound_first true h = tt
+no_bound_first false h = tt
+
+no_bound_blocks : (f : Form) (blocks : List Block) → NoBound (flat_map (block_lines f) blocks)
+no_bound_blocks f [] = tt
+no_bound_blocks f (b ∷ blocks) = no_bound_first (is_few b) (header_of b)
+
 -- two blocks with the same lines, before the same rest
 record IsSameBlock (b c : Block) (tail more : List LogLine) : Type 0 where
   same : b.line ≡ c.line → b ≡ c
   behind : tail ≡ more
 
 same_block : (f : Form) (b c : Block) (tail more : List LogLine) → BlockFits f b → BlockFits f c
-    → NoSat tail → NoSat more → block_lines f b ++ tail ≡ block_lines f c ++ more
+    → NoSat tail → NoSat more → NoBound tail → NoBound more → block_lines f b ++ tail ≡ block_lines f c ++ more
     → IsSameBlock b c tail more
-same_block f b c tail more g h x y e =
+same_block f b c tail more g h x y none clear e =
     let first = same_first (is_few b) (is_few c) (header_of b) (header_of c) (head e) in
     let bodies = sym (append_assoc (map line.Sat b.sats) (paved_lines f b.body) tail) ∙ rest e ∙ append_assoc (map line.Sat c.sats) (paved_lines f c.body) more in
     let sats = same_sats b.sats c.sats _ _ (no_sat_paved f b.body tail x) (no_sat_paved f c.body more y) bodies in
-    let body = same_body f b c b.body c.body tail more first.same g.body h.body sats.1 in
+    let body = same_body f b c b.body c.body tail more none clear first.same g.body h.body sats.1 in
     record {
       same = λ line. λ i. record {
         line = line i;
@@ -232,7 +314,7 @@ same_blocks f [] [] next g h x y e = refl
 same_blocks f [] (c ∷ others) next g h x y e = cc
 same_blocks f (b ∷ blocks) [] next g h x y e = cc
 same_blocks f (b ∷ blocks) (c ∷ others) next g h x y e =
-    let first = same_block f b c (flat_map (block_lines f) blocks) (flat_map (block_lines f) others) g.0 h.0 (no_sat_blocks f blocks) (no_sat_blocks f others) e in
+    let first = same_block f b c (flat_map (block_lines f) blocks) (flat_map (block_lines f) others) g.0 h.0 (no_sat_blocks f blocks) (no_sat_blocks f others) (no_bound_blocks f blocks) (no_bound_blocks f others) e in
     let one = first.same (x.0 ∙ sym y.0) in
     let numbered = subst (λ (d : Block). IsNumberedIn f (next + length (block_lines f d)) blocks) one x.1 in
     let later = same_blocks f blocks others (next + length (block_lines f c)) g.1 h.1 numbered y.1 first.behind in
@@ -278,36 +360,50 @@ spelled_has_no_fault k log text e is fault =
 
 -- ---- the numbers of a log's lines
 
-lines_of_body-length : (renews : Bool) (b : Block) (body : Option Body)
-    → 1 + length b.sats + lines_of_body body ≡ 1 + length (map line.Sat b.sats ++ paved_lines (form.Log renews) body)
-lines_of_body-length renews b None = omega (arith, length-append (map line.Sat b.sats) [], length-map b.sats line.Sat)
-lines_of_body-length renews b (Some body) =
-    let last = flat_map event_lines body.events ++ line.Done body.done ∷ [] in
-    omega (arith, length-append (map line.Sat b.sats) (line.Root (corners_of body.root) ∷ last), length-map b.sats line.Sat, length-append (flat_map event_lines body.events) (line.Done body.done ∷ []), lines_of_events body.events)
+lines_of_listed : (bounds : List BoundValue)
+    → length (flat_map bound_lines bounds) ≡ lines_of_bounds bounds
+lines_of_listed [] = refl
+lines_of_listed (bound ∷ more) =
+    omega (arith, lines_of_listed more, length-append (bound_lines bound) (flat_map bound_lines more), length-map bound.sums line.By)
 
-lines_in-length : (renews : Bool) (b : Block)
-    → lines_in b ≡ length (block_lines (form.Log renews) b)
-lines_in-length renews b = omega (arith, lines_of_body-length renews b b.body)
+lines_of_body-length : (may : LogForm) (b : Block) (body : Option Body)
+    → 1 + length b.sats + lines_of_body body ≡ 1 + length (map line.Sat b.sats ++ paved_lines (form.Log may) body)
+lines_of_body-length may b None = omega (arith, length-append (map line.Sat b.sats) [], length-map b.sats line.Sat)
+lines_of_body-length may b (Some body) =
+    let bounds = flat_map bound_lines body.bounds in
+    let last = flat_map event_lines body.events ++ line.Done body.done ∷ bounds in
+    omega (
+      arith,
+      length-append (map line.Sat b.sats) (line.Root (corners_of body.root) ∷ last),
+      length-map b.sats line.Sat,
+      length-append (flat_map event_lines body.events) (line.Done body.done ∷ bounds),
+      lines_of_events body.events,
+      lines_of_listed body.bounds,
+    )
 
-numbered_from : (renews : Bool) (next : ℕ) (blocks : List Block)
-    → IsNumberedIn (form.Log renews) next blocks → IsNumberedFrom next blocks
-numbered_from renews next [] numbered = numbered
-numbered_from renews next (b ∷ blocks) numbered =
-    (numbered.0, subst (λ (k : ℕ). IsNumberedFrom (next + k) blocks) (sym (lines_in-length renews b)) (numbered_from renews (next + length (block_lines (form.Log renews) b)) blocks numbered.1))
+lines_in-length : (may : LogForm) (b : Block)
+    → lines_in b ≡ length (block_lines (form.Log may) b)
+lines_in-length may b = omega (arith, lines_of_body-length may b b.body)
 
-numbered_in : (renews : Bool) (next : ℕ) (blocks : List Block) → IsNumberedFrom next blocks
-    → IsNumberedIn (form.Log renews) next blocks
-numbered_in renews next [] numbered = numbered
-numbered_in renews next (b ∷ blocks) numbered =
-    (numbered.0, subst (λ (k : ℕ). IsNumberedIn (form.Log renews) (next + k) blocks) (lines_in-length renews b) (numbered_in renews (next + lines_in b) blocks numbered.1))
+numbered_from : (may : LogForm) (next : ℕ) (blocks : List Block)
+    → IsNumberedIn (form.Log may) next blocks → IsNumberedFrom next blocks
+numbered_from may next [] numbered = numbered
+numbered_from may next (b ∷ blocks) numbered =
+    (numbered.0, subst (λ (k : ℕ). IsNumberedFrom (next + k) blocks) (sym (lines_in-length may b)) (numbered_from may (next + length (block_lines (form.Log may) b)) blocks numbered.1))
+
+numbered_in : (may : LogForm) (next : ℕ) (blocks : List Block) → IsNumberedFrom next blocks
+    → IsNumberedIn (form.Log may) next blocks
+numbered_in may next [] numbered = numbered
+numbered_in may next (b ∷ blocks) numbered =
+    (numbered.0, subst (λ (k : ℕ). IsNumberedIn (form.Log may) (next + k) blocks) (lines_in-length may b) (numbered_in may (next + lines_in b) blocks numbered.1))
 
 pub log_text_from : (log : LogValue) (text : List ℕ) → IsSpelling kind.Log log text
     → IsLogText log text
-log_text_from log text is = record { fits = is.fits; numbered = numbered_from (may_renew log.version) 3 log.blocks is.numbered; spelled = is.spelled }
+log_text_from log text is = record { fits = is.fits; numbered = numbered_from (log_form log.version) 3 log.blocks is.numbered; spelled = is.spelled }
 
 pub log_spelling : (log : LogValue) (text : List ℕ) → IsLogText log text
     → IsSpelling kind.Log log text
-log_spelling log text is = record { fits = is.fits; numbered = numbered_in (may_renew log.version) 3 log.blocks is.numbered; spelled = is.spelled }
+log_spelling log text is = record { fits = is.fits; numbered = numbered_in (log_form log.version) 3 log.blocks is.numbered; spelled = is.spelled }
 
 -- ---- what a reader's answer is held to
 
@@ -338,12 +434,16 @@ gives_fault (Err f) text value (inr fault) e first = inl (one_fault (place.First
 
 -- ---- version 1
 
-body_unrenewed : (f : Form) (b : Block) (body : Option Body) → f ≡ form.Log false
+-- what a log of version 1 may have: nothing more
+abbrev plain_form : Form
+plain_form = form.Log (record { renews = false; bounds = false })
+
+body_unrenewed : (f : Form) (b : Block) (body : Option Body) → f ≡ plain_form
     → BodyFits f b body → IsUnrenewed body
 body_unrenewed f b None plain fits = tt
-body_unrenewed f b (Some body) plain fits = none_renewed b.n body.events (subst (λ (g : Form). ClosingFits g b.n body.events body.done) plain fits.1).0
+body_unrenewed f b (Some body) plain fits = none_renewed b.n body.events (subst (λ (g : Form). ClosingFits g b.n body.events body.done body.bounds) plain fits.1).0
 
-blocks_unrenewed : (f : Form) (blocks : List Block) → f ≡ form.Log false
+blocks_unrenewed : (f : Form) (blocks : List Block) → f ≡ plain_form
     → AllByRecursion (BlockFits f) blocks → AreUnrenewed blocks
 blocks_unrenewed f [] plain fit = tt
 blocks_unrenewed f (b ∷ blocks) plain fit = (body_unrenewed f b b.body plain fit.0.body, blocks_unrenewed f blocks plain fit.1)

@@ -8,6 +8,7 @@ use Rattle.log_lines.specs.declared.line.ClosingLine.TheVariants as closing
 use Rattle.log_lines.specs.declared.line.Form.{Form}
 use Rattle.log_lines.specs.declared.line.Form.TheVariants as form
 use Rattle.log_lines.specs.declared.line.Header.{Header}
+use Rattle.log_lines.specs.declared.line.LogForm.{LogForm}
 use Rattle.log_lines.specs.declared.line.LogLine.{LogLine}
 use Rattle.log_lines.specs.declared.line.LogLine.TheVariants as line
 use Rattle.log_lines.specs.declared.line.Place.{Place}
@@ -17,8 +18,12 @@ use Rattle.paving_log.specs.declared.lines.Opening.{Opening}
 use Rattle.paving_log.specs.declared.log.LogError.{LogError}
 use Rattle.paving_log.specs.declared.log.LogError.TheVariants as error
 use Rattle.log_lines.specs.Lines.{text_of}
-use Rattle.log_lines.specs.Order.{may_end, Leads}
-use Rattle.log_lines.specs.Text.{first_line, header_of, block_lines, BlockFits}
+use Rattle.log_lines.specs.Order.{place_behind_done, may_end, Leads}
+use Rattle.log_lines.specs.Text.{first_line, header_of, event_lines, bound_lines, block_lines}
+use Rattle.log_lines.specs.Text.{EventFits, BoundsFit, BlockFits}
+use Rattle.log_tokens.specs.Fields.{IsCountFromTo}
+use Rattle.sat_model.specs.Bounds.{BoundValue}
+use Rattle.sat_model.specs.Events.{Event}
 use Rattle.std.specs.List.{flat_map, AllByRecursion}
 use Rattle.paving_log.specs.Faults.{FaultFrom}
 
@@ -52,10 +57,35 @@ closing_line (closing.Step s) = line.Step s
 closing_line (closing.Renew c) = line.Renew c
 closing_line (closing.Done splits) = line.Done splits
 
-abbrev pub behind_closing : Bool → ℕ → ClosingLine → Place
-behind_closing renews n (closing.Step s) = place.Steps renews n 0
-behind_closing renews n (closing.Renew c) = place.Steps renews n n
-behind_closing renews n (closing.Done splits) = place.Between (form.Log renews)
+abbrev pub behind_closing : LogForm → ℕ → ClosingLine → Place
+behind_closing may n (closing.Step s) = place.Steps may n 0
+behind_closing may n (closing.Renew c) = place.Steps may n n
+behind_closing may n (closing.Done splits) = place_behind_done may
+
+-- ---- what stands behind a root, in two parts: up to the number of splits, and the bounds
+
+abbrev pub stepped_lines : Form → List Event → ℕ → List LogLine
+stepped_lines (form.Log may) events done = flat_map event_lines events ++ line.Done done ∷ []
+stepped_lines form.Rows events done = []
+
+abbrev pub place_behind_steps : Form → Place
+place_behind_steps (form.Log may) = place_behind_done may
+place_behind_steps form.Rows = place.Between form.Rows
+
+abbrev pub AllStepsFit : Form → ℕ → List Event → ℕ → Type 0
+AllStepsFit (form.Log may) n events done =
+    AllByRecursion (EventFits may.renews n) events × IsCountFromTo 0 200000 done
+AllStepsFit form.Rows n events done = (events ≡ []) × (done ≡ 0)
+
+abbrev pub bounds_lines : Form → List BoundValue → List LogLine
+bounds_lines (form.Log may) bounds = flat_map bound_lines bounds
+bounds_lines form.Rows bounds = []
+
+abbrev pub AllBoundsFit : Form → List BoundValue → Type 0
+AllBoundsFit (form.Log may) bounds = BoundsFit may.bounds bounds
+AllBoundsFit form.Rows bounds = bounds ≡ []
+
+-- ---- blocks
 
 -- the place behind the first line of a block
 abbrev pub block_place : Form → Bool → Header → Place

@@ -1,4 +1,5 @@
-//! What stands behind a root: in a log the steps and renewals, and the number of splits.
+//! What stands behind a root up to the bounds: in a log the steps and renewals, and the number of
+//! splits.
 
 ghost use Rattle.std.specs.Prelude.{◌≡◌, ℕ, List, ◌++◌, [], ◌∷◌, cond, map, length, IfOk, IfErr};
 ghost use Rattle.std.specs.List.{flat_map};
@@ -8,12 +9,13 @@ ghost use Rattle.log_lines.specs.declared.line.Form.TheVariants as forms;
 ghost use Rattle.log_lines.specs.declared.line.LogLine.TheVariants as line;
 ghost use Rattle.log_lines.specs.declared.line.Place.TheVariants as place;
 ghost use Rattle.paving_log.specs.EventValues.{events_of};
-ghost use Rattle.log_lines.specs.Order.{place_behind_root};
+ghost use Rattle.log_lines.specs.Order.{place_behind_root, place_behind_done};
 ghost use Rattle.log_lines.specs.Rows.{CornersFit, corners_of};
-ghost use Rattle.paving_log.specs.Taking.{Takes, Refuses, IsEndOf, HasBetween};
+ghost use Rattle.paving_log.specs.Taking.{Takes, Refuses, IsEndOf, HasBetween, stepped_lines};
+ghost use Rattle.paving_log.specs.Taking.{place_behind_steps, AllStepsFit};
 ghost use Rattle.step_lines.specs.Steps.{steps_of};
 ghost use Rattle.step_lines.specs.Texts.{AreLines, told_steps};
-ghost use Rattle.log_lines.specs.Text.{row_line, event_lines, closing_lines, ClosingFits};
+ghost use Rattle.log_lines.specs.Text.{row_line, event_lines};
 
 use crate::events::Events;
 use crate::lines::Lines;
@@ -21,7 +23,7 @@ use crate::log::LogError;
 use crate::renewal::Renewal;
 use crate::take::{take_line, take_step};
 use grid_model::Box3;
-use log_lines::{ClosingLine, Corners, Form, LogLine, Place};
+use log_lines::{ClosingLine, Corners, Form, LogForm, LogLine, Place};
 use sat_model::{Row, SatEntry, Step};
 use std::alloc::{AllocError, Global};
 use std::rc::Rc;
@@ -41,21 +43,21 @@ pub fn box_of(corners: Corners) -> Box3
 /// The lines of the rows behind the box of a renewal.
 fn renewed_rows(
     alloc: Global,
-    renews: bool,
+    may: LogForm,
     n: u32,
     lines: Lines<'_>,
 ) -> Result<(Vec<Row>, Lines<'_>), LogError>
     ensures taken { IfOk result
-        (λ t. Takes (place.Steps renews n n) lines.entry (map row_line t.0.items)
-        (place.Steps renews n 0) t.1) }
+        (λ t. Takes (place.Steps may n n) lines.entry (map row_line t.0.items)
+        (place.Steps may n 0) t.1) }
     ensures many { IfOk result (λ t. length t.0.items ≡ n) }
-    ensures refused { IfErr result (Refuses (place.Steps renews n n) lines.entry) }
+    ensures refused { IfErr result (Refuses (place.Steps may n n) lines.entry) }
 {
     let mut rows = Vec::new(alloc);
     let mut behind = lines;
     let mut left = n;
     'rows: while 0 < left {
-        let (line, _, after) = take_line(behind, Place::Steps(renews, n, left))?;
+        let (line, _, after) = take_line(behind, Place::Steps(may, n, left))?;
         behind = after;
         match line {
             LogLine::Sat(entry) => match entry {
@@ -104,23 +106,23 @@ fn kept_count(step: &Step) -> u32
 fn events<'a>(
     alloc: Global,
     text: &Rc<Vec<u8>>,
-    renews: bool,
+    may: LogForm,
     n: u32,
     lines: Lines<'a>,
 ) -> Result<(Events, u32, Lines<'a>), LogError>
     requires { IsEndOf lines.rest.now text.now.value.items }
     ensures taken { IfOk result
-        (λ t. Takes (place.Steps renews n 0) lines.entry (flat_map event_lines (events_of t.0)
-        ++ line.Done t.1 ∷ []) (place.Between (forms.Log renews)) t.2) }
-    ensures fits { IfOk result (λ t. ClosingFits (forms.Log renews) n (events_of t.0) t.1) }
-    ensures refused { IfErr result (Refuses (place.Steps renews n 0) lines.entry) }
+        (λ t. Takes (place.Steps may n 0) lines.entry (flat_map event_lines (events_of t.0)
+        ++ line.Done t.1 ∷ []) (place_behind_done may) t.2) }
+    ensures fits { IfOk result (λ t. AllStepsFit (forms.Log may) n (events_of t.0) t.1) }
+    ensures refused { IfErr result (Refuses (place.Steps may n 0) lines.entry) }
 {
     let mut renewals = Vec::new(alloc);
     let mut count = 0;
     let mut kept = 0;
     let mut left = lines;
     'events: loop {
-        let (line, behind) = take_step(left, renews, n)?;
+        let (line, behind) = take_step(left, may, n)?;
         match line {
             ClosingLine::Step(step) => {
                 count += 1;
@@ -128,7 +130,7 @@ fn events<'a>(
                 left = behind;
             }
             ClosingLine::Renew(corners) => {
-                let (rows, behind) = renewed_rows(alloc, renews, n, behind)?;
+                let (rows, behind) = renewed_rows(alloc, may, n, behind)?;
                 let part = box_of(corners);
                 let renewal = Renewal {
                     at: count,
@@ -147,8 +149,8 @@ fn events<'a>(
     }
 }
 
-/// What stands behind a root: the steps and renewals and the number of splits, and nothing in the
-/// rows form.
+/// What stands behind a root up to the bounds: the steps and renewals and the number of splits, and
+/// nothing in the rows form.
 pub fn closing<'a>(
     alloc: Global,
     text: &Rc<Vec<u8>>,
@@ -158,13 +160,13 @@ pub fn closing<'a>(
 ) -> Result<(Events, u32, Lines<'a>), LogError>
     requires { IsEndOf lines.rest.now text.now.value.items }
     ensures taken { IfOk result
-        (λ t. Takes (place_behind_root form n) lines.entry (closing_lines form (events_of t.0) t.1)
-        (place.Between form) t.2) }
-    ensures fits { IfOk result (λ t. ClosingFits form n (events_of t.0) t.1) }
+        (λ t. Takes (place_behind_root form n) lines.entry (stepped_lines form (events_of t.0) t.1)
+        (place_behind_steps form) t.2) }
+    ensures fits { IfOk result (λ t. AllStepsFit form n (events_of t.0) t.1) }
     ensures refused { IfErr result (Refuses (place_behind_root form n) lines.entry) }
 {
     match form {
-        Form::Log { renews } => events(alloc, text, renews, n, lines),
+        Form::Log(may) => events(alloc, text, may, n, lines),
         Form::Rows => Ok((Events::new(alloc), 0, lines)),
     }
 }

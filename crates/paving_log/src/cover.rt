@@ -3,6 +3,7 @@
 ghost use Rattle.std.specs.Prelude.{◌≡◌, map, option_to_list, IfOk};
 ghost use Rattle.grid_model.specs.Boxes.{grid_box};
 ghost use Rattle.sat_model.specs.Fold.{first_boxes, taken_by, pieces};
+ghost use Rattle.sat_model.specs.KeptHulls.{hull_with, kept_hull};
 ghost use Rattle.subpaving.specs.Folding.{StepsFold};
 ghost use Rattle.subpaving.specs.LiveValues.{box_option, live_value};
 ghost use Rattle.step_lines.specs.Steps.{steps_of};
@@ -42,6 +43,38 @@ fn boxes_kept(alloc: Global, root: &Box3, steps: &LoggedSteps) -> Result<Vec<Box
         live.take(&step)?;
     }
     Ok(boxes)
+}
+
+/// The hull with one box more.
+fn hull_with(hull: Option<Box3>, part: &Box3) -> Option<Box3>
+    ensures { box_option result ≡ hull_with (box_option hull) (grid_box part.now) }
+{
+    match hull {
+        None => Some(*part),
+        Some(so_far) => Some(so_far.hull(part)),
+    }
+}
+
+/// The hull of the boxes that the steps close inside or at the edge, and none where there are none.
+/// Want of memory is the only error.
+pub fn kept_hull(
+    alloc: Global,
+    root: &Box3,
+    steps: &LoggedSteps,
+) -> Result<Option<Box3>, AllocError>
+    requires { StepsFold (first_boxes (grid_box root.now)) (steps_of steps.now) }
+    ensures { IfOk result (λ hull. box_option hull
+        ≡ kept_hull (pieces (grid_box root.now) (steps_of steps.now))) }
+{
+    let mut live = Live::of_root(alloc, root)?;
+    let mut hull = None;
+    for step in steps.ahead() {
+        if let Some(part) = kept_by(&live, &step) {
+            hull = hull_with(hull, &part);
+        }
+        live.take(&step)?;
+    }
+    Ok(hull)
 }
 
 /// The boxes that the steps of an epoch close inside or at the edge, in order of closing, and none

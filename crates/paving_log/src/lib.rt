@@ -2,6 +2,7 @@
 //! value.
 #![tactic(auto)]
 
+mod bounds;
 mod closing_lines;
 mod cover;
 mod entries;
@@ -14,9 +15,9 @@ mod renewal;
 mod take;
 mod texts;
 
-pub use cover::cover_boxes;
+pub use cover::{cover_boxes, kept_hull};
 pub use entries::rows_among;
-pub use log::{Body, Log, LogEpoch, LogError};
+pub use log::{Body, Bound, Log, LogEpoch, LogError};
 pub use own_tests::{
     EPOCH_DIFFERS, LineFault, SATELLITE_DIFFERS, first_repeat, is_later, own_fault, rows_in, suits,
 };

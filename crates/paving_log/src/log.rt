@@ -6,9 +6,16 @@ ghost use Rattle.paving_log.specs.declared.log.LogError.TheVariants.{NoMemory};
 
 use crate::renewal::Renewal;
 use grid_model::Box3;
-use sat_model::{Rules, SatEntry};
+use sat_model::{HalfSpace, RowSum, Rules, SatEntry};
 use std::alloc::{AllocError, AllocFailed};
 use step_lines::LoggedSteps;
+
+/// A half-space that holds what fits in an epoch, and the sums of rows that show it.
+#[derive(Debug, Drop)]
+pub struct Bound {
+    pub half: HalfSpace,
+    pub sums: Vec<RowSum>,
+}
 
 /// How an epoch was paved.
 #[derive(Debug, Drop)]
@@ -20,6 +27,8 @@ pub struct Body {
     pub renewals: Vec<Renewal>,
     /// The number of splits.
     pub done: u32,
+    /// The bounds behind it.
+    pub bounds: Vec<Bound>,
     pub ghost places: { AreAmong steps renewals.items } by { AreAmong-prop steps renewals.items },
 }
 
@@ -55,7 +64,8 @@ impl LogEpoch {
 /// The version of a log, the rules of its search, and its epochs in order.
 #[derive(Debug, Drop)]
 pub struct Log {
-    /// 1, 2 where rows may be renewed, or 3 where they may and pairs of rows show boxes empty.
+    /// 1, 2 where rows may be renewed, 3 where they may and pairs of rows show boxes empty, or 4
+    /// where there may be bounds too.
     pub version: u8,
     pub rules: Rules,
     pub epochs: Vec<LogEpoch>,

@@ -11,6 +11,7 @@ ghost use Rattle.log_lines.specs.Text.{head_lines, body_lines};
 ghost use Rattle.log_lines.specs.Text.{BlockFits};
 ghost use Rattle.paving_log.specs.Values.{block_of};
 
+use crate::bounds::bounds;
 use crate::closing_lines::{box_of, closing};
 use crate::lines::{Lines, Opening};
 use crate::log::{Body, LogEpoch, LogError};
@@ -49,7 +50,7 @@ pub fn head(kind: Kind, lines: Lines<'_>) -> Result<(u8, Rules, Lines<'_>), LogE
 }
 
 /// The first line of a block, unless the text ends.
-fn next_opening(form: Form, lines: Lines<'_>) -> Result<(Option<Opening>, Lines<'_>), LogError>
+pub fn next_opening(form: Form, lines: Lines<'_>) -> Result<(Option<Opening>, Lines<'_>), LogError>
     ensures taken { IfOk result (λ t. TakesTo form (place.Between form) lines.entry [] t.0 t.1) }
     ensures refused { IfErr result (Refuses (place.Between form) lines.entry) }
 {
@@ -138,20 +139,21 @@ fn few_satellites(
     Ok((sats, None, left))
 }
 
-/// The block of an epoch, behind its first line.
+/// The block of an epoch, behind its first line, and the first line of the next block, unless the
+/// text ends.
 fn paved_block<'a>(
     alloc: Global,
     text: &Rc<Vec<u8>>,
     form: Form,
     opening: Opening,
     lines: Lines<'a>,
-) -> Result<(LogEpoch, Lines<'a>), LogError>
+) -> Result<(LogEpoch, Option<Opening>, Lines<'a>), LogError>
     requires whole { IsEndOf lines.rest.now text.now.value.items }
     requires paved { opening.few ≡ false }
     requires header { HeaderFits opening.header }
     ensures taken { IfOk result
-        (λ t. Takes (place.Satellites form opening.header.n 0) lines.entry
-        (body_lines form (block_of t.0)) (place.Between form) t.1) }
+        (λ t. TakesTo form (place.Satellites form opening.header.n 0) lines.entry
+        (body_lines form (block_of t.0)) t.1 t.2) }
     ensures opened { IfOk result (λ t. IsOpened opening (block_of t.0)) }
     ensures fits { IfOk result (λ t. BlockFits form (block_of t.0)) }
     ensures refused { IfErr result
@@ -159,12 +161,15 @@ fn paved_block<'a>(
 {
     let (mut sats, corners, left) = satellites(alloc, form, opening.header.n, lines)?;
     let (events, done, left) = closing(alloc, text, form, opening.header.n, left)?;
+    let (mut bounds, next, left) = bounds(alloc, form, left)?;
     sats.shrink_to_fit();
+    bounds.shrink_to_fit();
     let body = Body {
         root: box_of(corners),
         steps: events.steps,
         renewals: events.renewals,
         done,
+        bounds,
     };
     let epoch = LogEpoch {
         line: opening.line,
@@ -174,7 +179,7 @@ fn paved_block<'a>(
         sats,
         body: Some(body),
     };
-    Ok((epoch, left))
+    Ok((epoch, next, left))
 }
 
 /// A block of few satellites behind its first line, and the first line of the next block, unless
@@ -227,9 +232,7 @@ fn block<'a>(
     if opening.few {
         return few_block(alloc, form, opening, lines);
     }
-    let (epoch, left) = paved_block(alloc, text, form, opening, lines)?;
-    let (next, left) = next_opening(form, left)?;
-    Ok((epoch, next, left))
+    paved_block(alloc, text, form, opening, lines)
 }
 
 /// All blocks, up to the end of the text. Their steps are read from it when they are asked for.

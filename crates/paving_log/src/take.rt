@@ -8,7 +8,7 @@ ghost use Rattle.paving_log.specs.Taking.{Takes, closing_line, behind_closing};
 
 use crate::lines::Lines;
 use crate::log::LogError;
-use log_lines::{ClosingLine, Fault, LogLine, Place, line_at};
+use log_lines::{ClosingLine, Fault, LogForm, LogLine, Place, line_at};
 use memchr::memchr;
 use step_lines::leading_step;
 
@@ -68,16 +68,16 @@ pub fn take_line(lines: Lines<'_>, place: Place) -> Result<(LogLine, Place, Line
 /// The next line behind the root of a log, word by word, and what is left.
 fn take_closing(
     lines: Lines<'_>,
-    renews: bool,
+    may: LogForm,
     n: u32,
 ) -> Result<(ClosingLine, Lines<'_>), LogError>
     ensures taken { IfOk result
-        (λ t. Takes (place.Steps renews n 0) lines.entry (closing_line t.0 ∷ [])
-        (behind_closing renews n t.0) t.1) }
+        (λ t. Takes (place.Steps may n 0) lines.entry (closing_line t.0 ∷ [])
+        (behind_closing may n t.0) t.1) }
     ensures fails { IfErr result
-        (LineFails (place.Steps renews n 0) lines.entry.rest.now lines.entry.number) }
+        (LineFails (place.Steps may n 0) lines.entry.rest.now lines.entry.number) }
 {
-    let (line, _, left) = take_line(lines, Place::Steps(renews, n, 0))?;
+    let (line, _, left) = take_line(lines, Place::Steps(may, n, 0))?;
     match line {
         LogLine::Step(step) => Ok((ClosingLine::Step(step), left)),
         LogLine::Renew(corners) => Ok((ClosingLine::Renew(corners), left)),
@@ -90,17 +90,17 @@ fn take_closing(
 /// and what is left.
 pub fn take_step(
     lines: Lines<'_>,
-    renews: bool,
+    may: LogForm,
     n: u32,
 ) -> Result<(ClosingLine, Lines<'_>), LogError>
     ensures taken { IfOk result
-        (λ t. Takes (place.Steps renews n 0) lines.entry (closing_line t.0 ∷ [])
-        (behind_closing renews n t.0) t.1) }
+        (λ t. Takes (place.Steps may n 0) lines.entry (closing_line t.0 ∷ [])
+        (behind_closing may n t.0) t.1) }
     ensures fails { IfErr result
-        (LineFails (place.Steps renews n 0) lines.entry.rest.now lines.entry.number) }
+        (LineFails (place.Steps may n 0) lines.entry.rest.now lines.entry.number) }
 {
     let Some((step, rest)) = leading_step(lines.rest) else {
-        return take_closing(lines, renews, n);
+        return take_closing(lines, may, n);
     };
     let left = Lines {
         rest,

@@ -12,7 +12,7 @@ rows-preserved c =
     let less : left ≡ suc (left - 1) = omega (arith, c.rows-test.true) in
     let is : c.in_ok-line.line ≡ line.Sat (entry.Row row) = c.in-Sat.is ∙ ap line.Sat c.in-Row.is in
     let pushed = c.in_ok-push-in-Row.ensures.items in (
-      row_taken c.args.renews c.args.n left (left - 1) c.args.lines c.rows.behind c.in_ok-line.after rows c.push.new.self.items row c.in_ok-line.line c.in_ok-line.field-0-1
+      row_taken c.args.may c.args.n left (left - 1) c.args.lines c.rows.behind c.in_ok-line.after rows c.push.new.self.items row c.in_ok-line.line c.in_ok-line.field-0-1
           c.rows.invariant.0 is c.in_ok-line.ensures.taken pushed less,
       omega (arith, ap length pushed, length-append rows (row ∷ []), c.rows.invariant.1, less),
     )
