@@ -1,7 +1,7 @@
 """Logs with bounds for compare.py: right ones, forged ones and drawn ones.
 
-`gpscover` writes no bounds. These come of tools/bound_cases.py, either over a root that is one box or behind the steps of a log,
-and many of them have something changed: whether a bound is right is for both checkers to say. For those over one box the
+`gpscover` writes no bounds. These come of tools/bound_cases.py, either over a root that is one box or behind the steps of a
+log, and many of them have something changed: whether a bound is right is for both checkers to say. For those over one box the
 definitions of bound_cases.py say it too.
 """
 
