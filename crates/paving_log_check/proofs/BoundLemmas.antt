@@ -124,8 +124,8 @@ none_shown q first events (bound ∷ more) some none = inl (λ shown. absurd (le
 
 -- ---- one after another
 
--- where the next line has this number, these bounds decide
 module _ (forms : List FormValue) (hull : GridBox) (q : ℕ) (all : List BoundValue) (line : ℕ) where
+  -- where the next line has this number, these bounds decide
   pub record IsOnTheWay (next : ℕ) (left : List BoundValue) : Type 0 where
     pub offset : ℕ
     pub next_is : next ≡ line + offset

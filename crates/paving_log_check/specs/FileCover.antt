@@ -44,6 +44,7 @@ AreFitBounds FitsAt root (bound ∷ more) =
     ((p : Pos) (b : ℤ) → box_holds root p ≡ true → FitsAt p b → IsInHalfSpace bound.half p)
     × AreFitBounds FitsAt root more
 
+-- the pieces cover what fits, and the bounds hold it
 pub record FitBounded (FitsAt : Pos → ℤ → Type 0) (root : GridBox) (body : Body) : Type 0 where
   pub epoch : FitCover FitsAt root (pieces root (steps_in body.events))
   pub bounded : AreFitBounds FitsAt root body.bounds

@@ -128,7 +128,8 @@ fn first_of(own_fault: Fault, behind: u32, due: bool) -> Fault
 /// boxes closed inside or at the edge, or no with the first line that fails a test. A yes means that
 /// the log has a block for each search, and that in each paved one the inside and edge boxes keep
 /// every point of the root and clock offset that all but at most `outliers` usable satellites are
-/// consistent with. Each block is tested against the root in which the walk searches its epoch.
+/// consistent with, and its bounds hold every such point. Each block is tested against the root in
+/// which the walk searches its epoch.
 pub fn check_with<'a, S: RowSource, W: LogWalk<'a>>(
     alloc: Global,
     source: &S,
