@@ -92,7 +92,7 @@ hand_on rules g b (Some given) (Some body) can is own begins (root, r) =
     = ap run_pieces own ∙ (λ i. alone (line.Root (corners_of (root i))) ∷ event_pieces (first_boxes (root i)) (r.events i)) in
     record {
       block = with_body g (Some done);
-      paves = extends_body (HasRun idle rules) g given done is refl (record { shown = r.shown ++ map OfStep more; run = run; events = refl; done = refl });
+      paves = extends_body (HasRun idle rules) g given done is refl (record { shown = r.shown ++ map OfStep more; run = run; events = refl; done = refl; bounds = refl });
       later = shown_pieces (map OfStep more) ++ done_pieces (Some done);
       pieces = ap (λ (ps : List Piece). ps ++ (shown_pieces (map OfStep more) ++ done_pieces (Some done)))
           (λ i. opening_is rules g b begins i ++ own_run i)

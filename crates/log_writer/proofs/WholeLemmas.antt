@@ -8,11 +8,12 @@ use Rattle.grid_model.specs.declared.boxes.Box3.{Box3}
 use Rattle.grid_model.specs.Boxes.{GridBox}
 use Rattle.sat_model.specs.Logs.{Block, LogValue}
 use Rattle.sat_model.specs.Verdicts.{Judged}
-use Rattle.sat_model.proofs.CoverLemmas.{row_cover}
+use Rattle.sat_model.proofs.BoundLemmas.{row_cover}
 use Rattle.paving.specs.Renewing.{Maker}
 use Rattle.log_lines.specs.declared.line.Form.TheVariants as form
 use Rattle.log_lines.specs.declared.line.Kind.TheVariants as kind
-use Rattle.log_lines.specs.Order.{may_renew, has_pairs}
+use Rattle.log_lines.specs.declared.line.LogForm.{LogForm}
+use Rattle.log_lines.specs.Order.{has_pairs, may_renew, log_form}
 use Rattle.paving_log.specs.RowsText.{OwnPasses}
 use Rattle.log_lines.specs.Text.{block_lines, log_lines, BlockFits, LogFits}
 use Rattle.paving_log.proofs.LogLemmas.{log_text_from}
@@ -139,7 +140,7 @@ module _ {B : Type 0} (source : Source B) (rules : Rules) (first : B) where
           let renews = λ (on : maker.active ≡ true). tells_renewed rules.pairs (source.maker first).active (sym u.active ∙ sym same ∙ on) in
           record {
             came = came_more source rules first behind next None u.blocks g b u.gave.came (gives_it gave) paves;
-            fit = all_more (BlockFits (form.Log (may_renew its_version))) u.blocks b u.gave.fit (block_fits maker rules (index_behind None u.blocks) g b f.fits passes suits paves (may_renew its_version) renews);
+            fit = all_more (BlockFits (form.Log (log_form its_version))) u.blocks b u.gave.fit (block_fits maker rules (index_behind None u.blocks) g b f.fits passes suits paves (log_form its_version) renews);
             pass = pass_more rules None u.blocks b u.gave.pass (block_passes maker rules (index_behind None u.blocks) g b f.fits passes suits paves);
             small = all_more (IsSmall rules) u.blocks b u.gave.small (block_small maker rules (index_behind None u.blocks) g b f.fits passes suits paves);
           }
@@ -347,15 +348,15 @@ module _ {B : Type 0} (source : Source B) (rules : Rules) (first last : B) (most
 
     -- the log, each block with the number of its line
     log : LogValue
-    log = log_of (version_of rules (source.maker first).active) rules (numbered (may_renew (version_of rules (source.maker first).active)) 3 w.blocks)
+    log = log_of (version_of rules (source.maker first).active) rules (numbered (log_form (version_of rules (source.maker first).active)) 3 w.blocks)
 
     same : pieces ≡ log_pieces log
     unfolding pieces log
-    same = ap (λ (ps : List Piece). head_pieces (version_of rules (source.maker first).active) rules ++ ps) (sym (same_pieces (may_renew (version_of rules (source.maker first).active)) 3 w.blocks))
+    same = ap (λ (ps : List Piece). head_pieces (version_of rules (source.maker first).active) rules ++ ps) (sym (same_pieces (log_form (version_of rules (source.maker first).active)) 3 w.blocks))
 
     judged : Judged log
     unfolding log
-    judged = passes_numbered (may_renew (version_of rules (source.maker first).active)) rules None 3 w.blocks w.gave.pass
+    judged = passes_numbered (log_form (version_of rules (source.maker first).active)) rules None 3 w.blocks w.gave.pass
 
     log_fits : LogFits kind.Log log
     unfolding log
@@ -363,7 +364,7 @@ module _ {B : Type 0} (source : Source B) (rules : Rules) (first last : B) (most
       version = version_le rules.pairs (source.maker first).active;
       has_version = refl;
       pairs = tells_pairs rules.pairs (source.maker first).active;
-      blocks = fits_numbered (may_renew (version_of rules (source.maker first).active)) 3 w.blocks w.gave.fit;
+      blocks = fits_numbered (log_form (version_of rules (source.maker first).active)) 3 w.blocks w.gave.fit;
     }
 
     -- all of it went out
@@ -372,7 +373,7 @@ module _ {B : Type 0} (source : Source B) (rules : Rules) (first last : B) (most
         → Finished {T = T} source rules first last most a (Ok done) c
     unfolding pieces log
     finish_done done all_out room flushed = λ start.
-        let on : Bool = may_renew (version_of rules (source.maker first).active) in
+        let on : LogForm = log_form (version_of rules (source.maker first).active) in
         let (put, sent) = flushed a pieces (w.went a [] start) in
         let text = pieces_text log in
         let count : 3 + length (flat_map (block_lines (form.Log on)) w.blocks) ≤ 4000000001 =

@@ -14,7 +14,7 @@ use Rattle.paving.specs.Renewing.{Maker}
 use Rattle.paving.specs.Runs.{TurnsBegun}
 use Rattle.paving.specs.Turns.{ShownEvent, events_of, PavedTurns}
 use Rattle.log_lines.specs.declared.line.Form.TheVariants as form
-use Rattle.log_lines.specs.Order.{may_renew}
+use Rattle.log_lines.specs.Order.{log_form}
 use Rattle.log_lines.specs.Text.{BlockFits}
 use Rattle.subpaving.specs.LiveValues.{box_option}
 use Rattle.epoch_report.specs.Reports.{counts_of}
@@ -29,9 +29,14 @@ use Rattle.log_writer.specs.Sources.{Source, Came, IsInHand}
 use Rattle.log_writer.specs.Texts.{IsText}
 use Rattle.log_writer.specs.Writing.{Sent, Counts, Seen, Put, Went, Ended}
 
--- the body of a run from this root
+-- the body of a run from this root, which has no bounds
 abbrev pub body_of : GridBox → List ShownEvent → ℕ → Body
-body_of root shown done = record { root = root; events = events_of shown; done = done }
+body_of root shown done = record {
+  root = root;
+  events = events_of shown;
+  done = done;
+  bounds = [];
+}
 
 -- its lines, with the number of splits
 abbrev pub paved_pieces : Body → List Piece
@@ -138,7 +143,7 @@ WroteBlock maker rules given before (Err fault) after =
 pub record Gave {B : Type 0} (source : Source B) (rules : Rules) (version : ℕ) (first : B)
     (blocks : List Block) (behind : B) : Type 0 where
   pub came : Came source rules first None blocks behind
-  pub fit : AllByRecursion (BlockFits (form.Log (may_renew version))) blocks
+  pub fit : AllByRecursion (BlockFits (form.Log (log_form version))) blocks
   pub pass : BlocksPass rules None blocks
   pub small : AllByRecursion (IsSmall rules) blocks
 

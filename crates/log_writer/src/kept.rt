@@ -2,7 +2,7 @@
 
 ghost use Rattle.std.specs.Prelude.{◌≡◌};
 ghost use Rattle.subpaving.specs.LiveValues.{box_option};
-ghost use Rattle.log_writer.specs.Kept.{hull_after};
+ghost use Rattle.sat_model.specs.KeptHulls.{hull_after};
 ghost use Rattle.grid_model.specs.Boxes.{grid_box};
 
 use grid_model::Box3;

@@ -8,7 +8,7 @@ ghost use Rattle.paving.specs.RenewalLines.{renewal_lines};
 ghost use Rattle.paving.specs.Taken.{step_bytes};
 ghost use Rattle.grid_model.specs.Boxes.{grid_box};
 ghost use Rattle.subpaving.specs.LiveValues.{box_option};
-ghost use Rattle.log_writer.specs.Kept.{hull_after};
+ghost use Rattle.sat_model.specs.KeptHulls.{hull_after};
 ghost use Rattle.log_writer.specs.Pieces.{Piece, alone, row_pieces};
 ghost use Rattle.log_writer.specs.Steps.{step_piece, BrokeAfter};
 ghost use Rattle.log_writer.specs.Writing.{Went, Ended, Written, Trusts, done, failed};
