@@ -4,6 +4,7 @@ There is at least one forged log for every number of a verdict, and for every ki
 `in` and `skip` lines. Each expected answer was found by hand from docs/LOG.md, and none by the program.
 """
 import collections
+import itertools
 import re
 import tempfile
 from pathlib import Path
@@ -572,6 +573,21 @@ def bounds_with_an_outlier():
     yield [*put(ALL_BOUNDED, 19), *bound(x, 7000000, nothing(), nothing(1))], "yes 3"
 
 
+def bounds_with_eight_outliers():
+    """Three times seven rows, with a sum of no rows for each five of seven. Two rows of seven leave one of the sums, and three
+    leave none: so nine have to be left out for all, and eight where one of the sums isn't there, with the two beside its five."""
+    rows = [ONE_BOX[3].replace("G01", f"G{number:02}") for number in range(1, 22)]
+    lines = ["gpscover 4", "rules 8 0 1000000", ONE_BOX[2][:-1] + "21", *rows, ONE_BOX[7], "edge 0 -1500000 1500000", "done 0"]
+    fives = [five for start in (0, 7, 14) for five in itertools.combinations(range(start, start + 7), 5)]
+    sums = ["by 1 " + " ".join(f"{place} 0" for place in five) for five in fives]
+    yield [*lines, *bound((0, 0, 0), 0, *sums)], "yes 1"
+    yield [*lines, *bound((0, 0, 0), 0, *sums[::-1])], "yes 1"
+    for k in 0, 20, 40, 62:
+        yield [*lines, *bound((0, 0, 0), 0, *sums[:k], *sums[k + 1 :])], f"{UNSHOWN} {len(lines) + 1}"
+        seven = [*lines[:1], lines[1].replace("8", "7"), *lines[2:]]
+        yield [*seven, *bound((0, 0, 0), 0, *sums[:k], *sums[k + 1 :])], "yes 1"
+
+
 def bounds_by_renewed_rows():
     """Twice x is at most twice the error by G05 and G01: of 5 m by the first rows and of 1 m by the renewed ones. Their ends
     are told within 50 um."""
@@ -657,8 +673,8 @@ def bounded_logs():
     """Logs with bounds, each with what `judge` says of it."""
     for more, answer in sums_of_two_rows():
         yield [*BOUNDED, *more], answer
-    for table in (bounds_where_nothing_fits, bounds_with_wide_rows, bounds_with_an_outlier, bounds_by_renewed_rows,
-                  bounds_that_do_not_fit):
+    for table in (bounds_where_nothing_fits, bounds_with_wide_rows, bounds_with_an_outlier, bounds_with_eight_outliers,
+                  bounds_by_renewed_rows, bounds_that_do_not_fit):
         yield from table()
 
 

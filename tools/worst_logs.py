@@ -1,7 +1,7 @@
 #!/usr/bin/env python3
 """Writes the logs that take `judge` the longest for their size, as far as they are known, and times them.
 
-usage: python3 -m tools.worst_logs PROGRAM [--splits N] [--mib N] [--bounds N] [--outliers Q] [--folder FOLDER]
+usage: python3 -m tools.worst_logs PROGRAM [--splits N] [--mib N] [--bounds N] [--folder FOLDER]
 
 A renewal is tested against all live boxes, and a forged log may have many of both. In the first two logs 200,000 splits
 come first (--splits). Then, until the log has its size (64 MiB; 512 is the most that is read):
@@ -9,9 +9,9 @@ come first (--splits). Then, until the log has its size (64 MiB; 512 is the most
   renewals  nothing but renewals, whose rows nobody uses
   cuts      renewals, each behind a cut of one box in each group of 512, so that each group has to be looked through
 
-  bounds    an epoch of 64 rows and one box, of which 8 may be left out (--outliers), with 500 bounds (--bounds). Each has
-            one sum more than may be lost, of five rows that no other one has: so there are 5^8 choices of rows by which
-            all sums but one are lost
+  bounds    an epoch of 25 rows and one box, at q = 8, with 500 bounds (--bounds). The sums of each are the 30 lines of the
+            plane of five times five points: eight points always miss a line of it (Jamison 1977, Brouwer and Schrijver
+            1978), but no more than five lines have no point in common, so that many choices of rows have to be looked at
 
 Prints a table: lines, seconds of processor time, and those for 512 MiB. The status is 1 where `judge` doesn't say yes.
 """
@@ -68,14 +68,15 @@ def end(splits):
     yield f"done {splits}\n"
 
 
-def bounds(outliers, count):
-    """An epoch of one box with so many bounds, whose sums share no rows and show what is true of any point."""
-    yield f"gpscover 4\nrules {outliers} 0 1000\nepoch 1 0 64\n"
-    yield from (f"sat G{n:02} 0 0 0 0 {20 * SIDE} {20 * SIDE} {20 * SIDE} {20 * SIDE} 0 0\n" for n in range(1, 65))
+def bounds(count):
+    """An epoch of one box with so many bounds, whose sums take no row and show what is true of any point."""
+    yield "gpscover 4\nrules 8 0 1000\nepoch 1 0 25\n"
+    yield from (f"sat G{n:02} 0 0 0 0 {20 * SIDE} {20 * SIDE} {20 * SIDE} {20 * SIDE} 0 0\n" for n in range(1, 26))
     yield "root 0 0 0 0 0 0\nedge 0 0 0\ndone 0\n"
-    sums = [" ".join(f"{place} 0" for place in range(5 * n, 5 * n + 5)) for n in range(outliers + 1)]
-    one = f"bound 0 0 0 0 {len(sums)}\n" + "".join(f"by 1 {terms}\n" for terms in sums)
-    yield from (one for _ in range(count))
+    lines = [[5 * x + (slope * x + start) % 5 for x in range(5)] for slope in range(5) for start in range(5)]
+    lines += [[5 * x + y for y in range(5)] for x in range(5)]
+    sums = "".join("by 1 " + " ".join(f"{place} 0" for place in line) + "\n" for line in lines)
+    yield from (f"bound 0 0 0 0 {len(lines)}\n{sums}" for _ in range(count))
 
 
 def measure(program, path):
@@ -93,14 +94,13 @@ def main():
     parser.add_argument("--splits", type=int, default=200_000)
     parser.add_argument("--mib", type=int, default=64)
     parser.add_argument("--bounds", type=int, default=500)
-    parser.add_argument("--outliers", type=int, default=8)
     parser.add_argument("--folder", type=Path)
     words = parser.parse_args()
     size = words.mib * MIB
     logs = {
         "renewals": itertools.chain(start(words.splits), renewals(words.splits, size), end(words.splits)),
         "cuts": itertools.chain(start(words.splits), cuts(words.splits, size), end(words.splits)),
-        "bounds": bounds(words.outliers, words.bounds),
+        "bounds": bounds(words.bounds),
     }
     well = True
     with tempfile.TemporaryDirectory() as temporary:
