@@ -11,7 +11,7 @@ use Rattle.sat_model.specs.declared.rules.Rules.{Rules}
 use Rattle.sat_model.specs.declared.steps.Step.{Step}
 use Rattle.sat_rows.specs.declared.bases.Base.{Base}
 use Rattle.paving_log_check.specs.Epochs.{Counts, EpochFails}
-use Rattle.paving_log_check.specs.Forming.{AreManyBefore, IsManyBefore, own_lines}
+use Rattle.paving_log_check.specs.Forming.{AreAsMany, AreManyBefore, IsManyBefore, own_lines}
 use Rattle.paving_log_check.specs.OwnLines.{OwnLines, renewals_of, HaveEachRow, HaveRowsBefore, behind_root, HasRowsBefore, IsWholeBefore}
 use Rattle.sat_rows.specs.declared.lines.SatLine.{SatLine}
 use Rattle.paving_log_check.specs.Steps.{StepsFail}
@@ -28,6 +28,15 @@ module _ (bases : List Base) where
   none_before k (Renewed new ∷ events) [] is = omega (arith, is)
   none_before k (Renewed new ∷ events) (given ∷ more) is =
       (omega (arith, is), none_before (k - (1 + length new.rows)) events more (omega (arith, is)))
+
+  -- before any line there are as many as there are in all
+  pub all_before : (k : ℕ) (events : List Event) (renewed : List (List Row)) → AreAsMany bases (renewals_in events) renewed
+      → AreManyBefore bases k events renewed
+  all_before k [] renewed many = tt
+  all_before k (Made step ∷ events) renewed many = all_before (k - 1) events renewed many
+  all_before k (Renewed new ∷ events) [] many = absurd many
+  all_before k (Renewed new ∷ events) (given ∷ more) many =
+      (omega (arith, many.0), all_before (k - (1 + length new.rows)) events more many.1)
 
   pub none_in_body : (k : ℕ) (body : Option Body) (renewed : List (List Row)) → k ≡ 0
       → IsManyBefore bases k body renewed

@@ -1,14 +1,17 @@
 -- The lines of a block, and a log judged block by block.
 use Rattle.std.proofs.Common.{◌≡◌, ℕ, zero, suc, ◌+◌, ◌<◌, ◌≤◌, arith, List, [], ◌∷◌, length, drop, ap, Option, Some, inl, inr}
 use Rattle.sat_model.specs.declared.rules.Rules.{Rules}
+use Rattle.sat_model.specs.Bounds.{BoundValue, lines_of_bounds}
+use Rattle.sat_model.specs.BoxTests.{test_in}
 use Rattle.sat_model.specs.Cover.{kept_in, kept_boxes_in, kept_boxes}
 use Rattle.sat_model.specs.Events.{Event, Made, Renewed, RowsOver, lines_of_all}
-use Rattle.sat_model.specs.Stages.{Stage, after}
-use Rattle.sat_model.specs.Logs.{Block, LogValue, lines_in, IsNumberedFrom}
+use Rattle.sat_model.specs.ShownBounds.{IsFirstUnshown}
+use Rattle.sat_model.specs.Stages.{Stage, first_stage, after}
+use Rattle.sat_model.specs.Logs.{Body, Block, LogValue, first_rows, lines_in, IsNumberedFrom}
 use Rattle.sat_model.specs.Renewals.{LineTests, LinesFail, RenewalFails}
 use Rattle.sat_model.specs.declared.rows.Row.{Row}
 use Rattle.sat_model.specs.Fold.{Subpaving}
-use Rattle.sat_model.specs.Verdicts.{EventsFail, BlockPasses, BlockFails, BlocksPass, BlocksFail, Judged, FirstFault}
+use Rattle.sat_model.specs.Verdicts.{EventsFail, BodyFailsBy, BlockPasses, BlockFails, BlocksPass, BlocksFail, Judged, FirstFault}
 use Rattle.paving_log.proofs.OwnLemmas.{IsBlockAt}
 
 -- ---- a failing line is one of the block's
@@ -25,7 +28,7 @@ module _ {F : Type 0} (tests : LineTests F) (first : RowsOver) where
   renewal_within j boxes new zero fault f = omega arith
   renewal_within j boxes new (suc k) fault f = omega (arith, lines_within j 0 new.rows k fault f.1)
 
-  pub events_within : (rules : Rules) (done j : ℕ) (stage : Stage) (events : List Event) (k : ℕ) (fault : F)
+  events_within : (rules : Rules) (done j : ℕ) (stage : Stage) (events : List Event) (k : ℕ) (fault : F)
       → EventsFail tests first rules done j stage events k fault → k ≤ lines_of_all events
   events_within rules done j stage [] k fault f = omega (arith, f.0)
   events_within rules done j stage (Made step ∷ events) zero fault f = omega arith
@@ -33,6 +36,20 @@ module _ {F : Type 0} (tests : LineTests F) (first : RowsOver) where
   events_within rules done j stage (Renewed new ∷ events) k fault (inl f) = omega (arith, renewal_within j stage.boxes new k fault f)
   events_within rules done j stage (Renewed new ∷ events) k fault (inr (l, is, passes, f)) =
       omega (arith, is, events_within rules done (suc j) (after stage (Renewed new)) events l fault f)
+
+unshown_within : (q : ℕ) (first : RowsOver) (events : List Event) (bounds : List BoundValue) (k : ℕ)
+    → IsFirstUnshown q first events bounds k → k < lines_of_bounds bounds
+unshown_within q first events [] k f = absurd f
+unshown_within q first events (bound ∷ more) k (inl f) = omega (arith, f.1)
+unshown_within q first events (bound ∷ more) k (inr (shown, (m, is, later))) =
+    omega (arith, is, unshown_within q first events more m later)
+
+pub body_within : {F : Type 0} (tests : LineTests F) (rules : Rules) (block : Block) (body : Body) (k : ℕ) (fault : F)
+    → BodyFailsBy tests rules block body k fault → k ≤ lines_of_all body.events + lines_of_bounds body.bounds
+body_within tests rules block body k fault (inl f) =
+    omega (arith, events_within tests (first_rows block body) rules body.done 0 (first_stage (test_in rules block) body.root) body.events k fault f)
+body_within tests rules block body k fault (inr f) =
+    omega (arith, f.line, unshown_within rules.outliers (first_rows block body) body.events body.bounds f.m f.unshown)
 
 -- ---- the log, from a block on
 

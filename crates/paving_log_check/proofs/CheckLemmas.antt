@@ -28,8 +28,10 @@ use Rattle.paving_log_check.proofs.BlockLemmas.{last_number}
 pub body_passes : (delays : Delays) (rules : Rules) (root : GridBox) (renewed : List (List Row)) (block : Block) (body : Option Body)
     → BodyPassesAt delays rules root renewed block body → BodyPasses rules block body
 body_passes delays rules root renewed block None h = tt
-body_passes delays rules root renewed block (Some body) h =
-    events_any (HoldsGiven delays renewed) (first_rows block body) rules body.done 0 (first_stage (test_in rules block) body.root) body.events h.1
+body_passes delays rules root renewed block (Some body) h = record {
+  events = events_any (HoldsGiven delays renewed) (first_rows block body) rules body.done 0 (first_stage (test_in rules block) body.root) body.events h.1.events;
+  bounds = h.1.bounds;
+}
 
 module _ (m : Meaning) where
   -- behind these blocks, what holds for own lines of the searches left holds for more lines from the start on

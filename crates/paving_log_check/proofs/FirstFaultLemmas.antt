@@ -4,23 +4,21 @@ use Rattle.std.specs.Prelude.{ℤ, slice_get}
 use Rattle.std.proofs.lemmas.Bool.{cases_order}
 use Rattle.epoch_selection.specs.Searches.{Search}
 use Rattle.grid_model.specs.Boxes.{Side, GridBox, span_side}
-use Rattle.sat_model.specs.BoxTests.{test_in}
-use Rattle.sat_model.specs.Stages.{first_stage}
-use Rattle.sat_model.specs.Logs.{Body, Block, LogValue, first_rows, lines_in}
+use Rattle.sat_model.specs.Logs.{Body, Block, LogValue, lines_in}
 use Rattle.sat_model.specs.Relaxed.{ends}
 use Rattle.sat_model.specs.declared.rows.Row.{Row}
 use Rattle.sat_model.specs.declared.rules.Rules.{Rules}
 use Rattle.sat_model.specs.declared.rows.SatEntry.{SatEntry}
 use Rattle.sat_model.specs.declared.rows.SatEntry.TheVariants as entry
 use Rattle.gnss_model.specs.declared.delays.Delays.{Delays}
-use Rattle.sat_model.proofs.FaultLemmas.{AreSharp, one_in_events}
-use Rattle.sat_model.proofs.VerdictLemmas.{AreExclusive, events_not_both}
+use Rattle.sat_model.proofs.FaultLemmas.{AreSharp, one_in_body as one_behind_root}
+use Rattle.sat_model.proofs.VerdictLemmas.{AreExclusive, body_not_both}
 use Rattle.sat_rows.specs.declared.lines.SatLine.{SatLine}
 use Rattle.sat_rows.specs.declared.lines.SatLine.TheVariants.{Usable, Skipped}
 use Rattle.paving_log_check.specs.Admissible.{DueFails, AdmitsFrom, BlockFault, FailsFrom, Admits, FailsFirst}
 use Rattle.paving_log_check.specs.Answers.{ShowsNoSpans}
 use Rattle.paving_log_check.specs.Checked.{AreSameFault}
-use Rattle.paving_log_check.specs.Epochs.{EpochPasses, BodyFailsAt, BodyDiffers, EpochFails}
+use Rattle.paving_log_check.specs.Epochs.{BodyPassesAt, EpochPasses, BodyFailsAt, BodyDiffers, EpochFails}
 use Rattle.paving_log_check.specs.Lines.{HoldEach, compared, IsFirstNarrow, IsExpected, RowPasses, RowFails, LinePasses, LineFails, SatsPass, SatsFail}
 use Rattle.paving_log_check.specs.OwnLines.{OwnLines}
 use Rattle.paving_log_check.specs.Renewed.{IsGiven, own_tests}
@@ -159,11 +157,10 @@ module _ (delays : Delays) where
   epoch_not_both rules root own block fault h (inr (inl sats)) = sats_not_both sats.k fault h.sats sats.fails
   epoch_not_both rules root own block fault h (inr (inr (inl missing))) = absurd (omega (arith, missing.missing, h.whole))
   epoch_not_both rules root own block fault h (inr (inr (inr b))) =
-      let at = rw b.is_body at h.body in
+      let at = subst (λ (o : Option Body). BodyPassesAt delays rules root own.renewed block o) b.is_body h.body in
       elim b.fails [
         | inl differs ↦ differs.differs at.0
-        | inr event ↦ events_not_both (own_tests delays own.renewed) (own_exclusive own.renewed) (first_rows block b.body) rules b.body.done
-            0 (first_stage (test_in rules block) b.body.root) b.body.events event.k fault at.1 event.fails
+        | inr event ↦ body_not_both (own_tests delays own.renewed) (own_exclusive own.renewed) rules block b.body event.k fault at.1 event.fails
       ]
 
   one_in_body : (rules : Rules) (root : GridBox) (own : OwnLines) (block : Block) (a b : Fault)
@@ -180,8 +177,7 @@ module _ (delays : Delays) where
       one_at rules root renewed block body a b (inl f) (inr g) = absurd (f.differs g.same)
       one_at rules root renewed block body a b (inr f) (inl g) = absurd (g.differs f.same)
       one_at rules root renewed block body a b (inr f) (inr g) =
-          let same = one_in_events (own_tests delays renewed) AreAlike (own_sharp renewed) (first_rows block body) rules body.done
-          0 (first_stage (test_in rules block) body.root) body.events f.k a g.k b f.fails g.fails in
+          let same = one_behind_root (own_tests delays renewed) AreAlike (own_sharp renewed) rules block body f.k a g.k b f.fails g.fails in
           on_line a b (omega (arith, f.line, g.line, same.0)) same.1
 
   pub one_in_epoch : (rules : Rules) (root : GridBox) (own : OwnLines) (block : Block) (a b : Fault)

@@ -8,16 +8,17 @@ use Rattle.epoch_selection.specs.Searches.{Search, searches_in}
 use Rattle.rinex_obs.specs.declared.obs.ObsEpoch.{ObsEpoch}
 use Rattle.rinex_obs.specs.declared.obs.SatObs.{SatObs}
 use Rattle.grid_model.specs.Boxes.{Side, GridBox, box_holds, span_side}
-use Rattle.sat_model.specs.Cover.{IsSureInside, AreSureInside, AreSureFrom}
+use Rattle.sat_model.specs.Cover.{SomeKeeps, IsSureInside, AreSureInside, AreSureFrom}
 use Rattle.grid_model.specs.Ranges.{range_to}
 use Rattle.sat_model.specs.Fitting.{RowValue, low_bounds, high_bounds, IsAllowed, IsSurelyAllowed, IsPossible, IsSure, AllBut}
 use Rattle.sat_model.specs.Events.{Event, Made, Renewed, RowsOver, rows_over, steps_in, renewals_in}
-use Rattle.sat_model.specs.Fold.{Subpaving, boxes_after, ShownStep, taken_by, pieces_from}
+use Rattle.sat_model.specs.Fold.{Subpaving, boxes_after, ShownStep, taken_by, pieces_from, pieces}
 use Rattle.grid_model.specs.Intervals.{Between}
 use Rattle.sat_model.specs.BoxTests.{test_in}
 use Rattle.sat_model.specs.Logs.{Body, Block, is_few, rows_of}
 use Rattle.sat_model.specs.Relaxed.{ends}
 use Rattle.sat_model.specs.Renewals.{HoldsLive, LinesPass}
+use Rattle.sat_model.specs.ShownBounds.{AreBoundsShown}
 use Rattle.sat_model.specs.Stages.{Stage, first_stage, after}
 use Rattle.sat_model.specs.Verdicts.{EventsPass}
 use Rattle.grid_model.specs.SearchBoxes.{IsSearchBox}
@@ -44,6 +45,7 @@ use Rattle.paving_log_check.specs.FileCover.{FitsInside, AllFitInside, FitBodyCo
 use Rattle.paving_log_check.specs.Lines.{expected, IsSameLine, HoldsSide, bounds_unless, HoldEach, HasBoundIf, HoldsOwn, HasBound, RowPasses, SatsPass}
 use Rattle.paving_log_check.specs.OwnLines.{OwnLines, renewals_of, usable_of, AreOwnRows, AreRenewed, IsOwnOf, AreOwn, HaveEachRow, AreWhole}
 use Rattle.paving_log_check.specs.Renewed.{HoldsGiven}
+use Rattle.paving_log_check.proofs.BoundLemmas.{fit_bounds}
 use Rattle.std.proofs.lemmas.Option.{same_Some as same_one}
 
 -- ---- one row
@@ -497,7 +499,7 @@ module _ (m : Meaning) (sound : IsSound m) (root : GridBox) (box : IsSearchBox r
         let judged = usable_judged seens lines own in
         let held = fair_held m.delays block.sats lines fair in
         let over = lines_own seens lines own in
-        let events : EventsPass (HoldsGiven m.delays renewed) (rows_over root firsts) rules body.done 0 (first_stage (test_in rules block) root) body.events = rw passes.0 at passes.1 in
+        let events : EventsPass (HoldsGiven m.delays renewed) (rows_over root firsts) rules body.done 0 (first_stage (test_in rules block) root) body.events = rw passes.0 at passes.1.events in
         let cover = epoch_cover (HoldsGiven m.delays renewed) rules body.done (test_in rules block) root body.events events in
         let start : IsFrom renewed 0 renewed = λ i. ap (slice_get renewed) (omega arith) in
         let fits = fit_events renewed (rows_over root firsts) rules body.done usable judged rules.outliers seens
@@ -512,15 +514,18 @@ module _ (m : Meaning) (sound : IsSound m) (root : GridBox) (box : IsSearchBox r
           live = λ p some. held_in_root (weight p (Some root ∷ [])) (box_holds root p) (root_weight root p) some;
           within = λ p h. h;
         }) cover.sure in
+        let each : (p : Pos) (b : ℤ) → Fits m root tag rules.outliers p b seens → PossibleInEach rules.outliers p b (rows_over root firsts ∷ renewals_in body.events) =
+        λ p b fit.
+        let all = usable_fit rules.outliers p b seens lines own fit in (
+          λ in_root. possible_rows root rules.outliers p b usable firsts (own_rows lines) held over in_root all,
+          each_possible renewed (rows_over root firsts) rules body.done usable judged rules.outliers p b 0 (first_stage (test_in rules block) root) body.events renewed events start given whole all,
+        ) in
+        let covers : (p : Pos) (b : ℤ) → box_holds root p ≡ true → Fits m root tag rules.outliers p b seens → SomeKeeps p b (pieces root (steps_in body.events)) =
+        λ p b inside fit. covers_each (HoldsGiven m.delays renewed) rules body.done (test_in rules block) root body.events events p b inside (each p b fit) in
         record {
-          partition = cover.partition;
-          covers = λ p b inside fit.
-              let all = usable_fit rules.outliers p b seens lines own fit in
-              covers_each (HoldsGiven m.delays renewed) rules body.done (test_in rules block) root body.events events p b inside (
-                λ in_root. possible_rows root rules.outliers p b usable firsts (own_rows lines) held over in_root all,
-                each_possible renewed (rows_over root firsts) rules body.done usable judged rules.outliers p b 0 (first_stage (test_in rules block) root) body.events renewed events start given whole all,
-              );
-          fits_inside = fits;
+          epoch = record { partition = cover.partition; covers = covers; fits_inside = fits };
+          bounded = fit_bounds rules.outliers (rows_over root firsts) body.events (λ p b. Fits m root tag rules.outliers p b seens) covers each body.bounds
+              (subst (λ (part : GridBox). AreBoundsShown rules.outliers (rows_over part firsts) body.events body.bounds) passes.0 passes.1.bounds);
         }
       where
         rows_many : (seens : List SatObs) (lines : List SatLine)
@@ -548,7 +553,8 @@ module _ (m : Meaning) (sound : IsSound m) (root : GridBox) (box : IsSearchBox r
   block_cover rules block None own seens is passes are given whole = tt
   block_cover rules block (Some body) own seens is passes are given whole =
       let fair = fair_block m.delays block body own.lines is passes.sats passes.whole in
-      body_cover rules block own.lines own.renewed seens are fair passes.counts body is (rw is at passes.body) given whole
+      body_cover rules block own.lines own.renewed seens are fair passes.counts body is
+      (subst (λ (o : Option Body). BodyPassesAt m.delays rules root own.renewed block o) is passes.body) given whole
 
 -- each search is in a search box
 abbrev pub AreInBoxes : List Search → Type 0

@@ -1,19 +1,21 @@
 -- What passes against own rows passes with the rows taken as given, and where no own rows are given the same line fails.
-use Rattle.std.proofs.Common.{◌≡◌, ℕ, zero, suc, ◌+◌, arith, List, [], ◌∷◌, length, sym, inl, inr, Option, None, Some, Result, Ok, Err}
+use Rattle.std.proofs.Common.{◌≡◌, ℕ, zero, suc, ◌+◌, arith, List, [], ◌∷◌, length, refl, sym, inl, inr, Option, None, Some, Result, Ok, Err}
 use Rattle.std.specs.Prelude.{IfOk, MatchOption}
 use Rattle.gnss_model.specs.declared.delays.Delays.{Delays}
 use Rattle.grid_model.specs.Boxes.{GridBox}
 use Rattle.grid_model.specs.declared.memory.NoMemory.{NoMemory}
-use Rattle.sat_model.specs.Events.{Event, Made, Renewed, RowsOver, rows_over, renewals_in}
+use Rattle.sat_model.specs.Events.{Event, Made, Renewed, RowsOver, rows_over, renewals_in, lines_of_all}
 use Rattle.sat_model.specs.Fold.{Subpaving}
 use Rattle.sat_model.specs.Logs.{Body, Block, rows_of}
 use Rattle.sat_model.specs.Renewals.{LineFact, AnyLine, LinesPass, RenewalPasses, no_tests, LineFails, LinesFail, RenewalFails}
+use Rattle.sat_model.specs.ShownBounds.{AreBoundsShown, IsFirstUnshown}
 use Rattle.sat_model.specs.Stages.{Stage, after}
 use Rattle.sat_model.specs.Verdicts.{EventsPass, EventsFail, BodyPasses, BodyFailsBy}
 use Rattle.sat_model.specs.declared.rows.Row.{Row}
 use Rattle.sat_model.specs.declared.rules.Rules.{Rules}
+use Rattle.sat_rows.specs.declared.bases.Base.{Base}
 use Rattle.paving_log_check.specs.Answers.{ShowsNoSpans}
-use Rattle.paving_log_check.specs.Forming.{AreAllFormed, EventsHold, EventsBreak}
+use Rattle.paving_log_check.specs.Forming.{AreAllFormed, EventsHold, ClosingHolds, ClosingBreaks}
 use Rattle.paving_log_check.specs.Renewed.{IsGiven, own_tests}
 use Rattle.paving_log_check.specs.declared.verdict.Fault.{Fault}
 
@@ -90,13 +92,47 @@ none_formed delays root (new ∷ renewals) (given ∷ more) formed (suc j) i our
 module _ (delays : Delays) (rules : Rules) (block : Block) (body : Body) where
   pub body_told : (result : Result (Option Fault) NoMemory) (firsts : List Row) (line : ℕ)
       → firsts ≡ rows_of block.sats
-      → IfOk result (λ found. MatchOption found (EventsHold delays body.root firsts [] rules body.done body.events)
-      (λ fault. (k : ℕ) × EventsBreak delays body.root firsts [] rules body.done body.events k fault × (fault.line ≡ line + k)))
+      → IfOk result (λ found. MatchOption found (ClosingHolds delays body.root firsts [] rules body)
+      (λ fault. (k : ℕ) × ClosingBreaks delays body.root firsts [] rules body k fault × (fault.line ≡ line + k)))
       → line ≡ block.line + 2 + length block.sats
       → IfOk result (λ found. MatchOption found (BodyPasses rules block (Some body))
       (λ fault. (k : ℕ) × BodyFailsBy no_tests rules block body k fault.number × ShowsNoSpans fault × (fault.line ≡ block.line + 2 + length block.sats + k)))
-  body_told (Ok None) firsts line is h begins = rw is at (events_any _ (rows_over body.root firsts) rules body.done 0 _ body.events h.passes)
-  body_told (Ok (Some fault)) firsts line is (k, f, at) begins =
+  body_told (Ok None) firsts line is h begins = record {
+    events = rw is at (events_any _ (rows_over body.root firsts) rules body.done 0 _ body.events h.events.passes);
+    bounds = rw is at h.bounds;
+  }
+  body_told (Ok (Some fault)) firsts line is (k, inl f, at) begins =
       let told = events_told delays f.renewed (none_formed delays body.root (renewals_in body.events) f.renewed f.formed) (rows_over body.root firsts) rules body.done 0 _ body.events k fault f.fails in
-      (k, rw is at told.0, told.1, omega (arith, at, begins))
+      (k, inl (rw is at told.0), told.1, omega (arith, at, begins))
+  body_told (Ok (Some fault)) firsts line is (k, inr f, at) begins = (
+    k,
+    inr (record {
+      events = rw is at (events_any _ (rows_over body.root firsts) rules body.done 0 _ body.events f.events.passes);
+      m = f.m;
+      unshown = rw is at f.unshown;
+      line = f.line;
+      number = f.number;
+      plain = tt;
+    }),
+    f.no_spans,
+    omega (arith, at, begins),
+  )
   body_told (Err e) firsts line is h begins = tt
+
+-- what stands behind a root is decided by its steps and renewals, and then by its bounds
+module _ (delays : Delays) (root : GridBox) (firsts : List Row) (bases : List Base) (rules : Rules) (body : Body) where
+  pub closing_decided : (result : Result (Option Fault) NoMemory) (line behind : ℕ)
+      → EventsHold delays root firsts bases rules body.done body.events
+      → behind ≡ line + lines_of_all body.events + 1
+      → IfOk result (λ found. MatchOption found (AreBoundsShown rules.outliers (rows_over root firsts) body.events body.bounds)
+      (λ fault. (m : ℕ) × IsFirstUnshown rules.outliers (rows_over root firsts) body.events body.bounds m
+      × (fault.number ≡ 66) × ShowsNoSpans fault × (fault.line ≡ behind + m)))
+      → IfOk result (λ found. MatchOption found (ClosingHolds delays root firsts bases rules body)
+      (λ fault. (k : ℕ) × ClosingBreaks delays root firsts bases rules body k fault × (fault.line ≡ line + k)))
+  closing_decided (Ok None) line behind events begins h = record { events = events; bounds = h }
+  closing_decided (Ok (Some fault)) line behind events begins (m, unshown, number, plain, at) = (
+    lines_of_all body.events + 1 + m,
+    inr (record { events = events; m = m; unshown = unshown; line = refl; number = number; no_spans = plain }),
+    omega (arith, at, begins),
+  )
+  closing_decided (Err e) line behind events begins h = tt

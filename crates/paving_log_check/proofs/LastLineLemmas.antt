@@ -1,32 +1,34 @@
 -- The fault of a paved block stands on one of its lines, so it is told whatever comes behind it.
 use Rattle.std.proofs.Common.{◌≡◌, ℕ, ◌+◌, ◌<◌, arith, List, length, inl, inr, refl, sym, ap, subst, Option, None, Some}
 use Rattle.epoch_selection.specs.Searches.{Search}
-use Rattle.paving_log_check.proofs.BlockLemmas.{events_within}
+use Rattle.paving_log_check.proofs.BlockLemmas.{body_within}
 use Rattle.paving_log_check.specs.Admissible.{BlockFault}
 use Rattle.paving_log_check.specs.Epochs.{BodyFailsAt, EpochFails}
 use Rattle.paving_log_check.specs.OwnLines.{OwnLines}
 use Rattle.paving_log_check.specs.Renewed.{own_tests}
 use Rattle.paving_log_check.specs.declared.verdict.Fault.{Fault}
 use Rattle.grid_model.specs.Boxes.{GridBox}
-use Rattle.sat_model.specs.BoxTests.{test_in}
+use Rattle.sat_model.specs.Bounds.{lines_of_bounds}
 use Rattle.sat_model.specs.Events.{lines_of_all}
-use Rattle.sat_model.specs.Logs.{Body, Block, first_rows, lines_in, lines_of_body}
-use Rattle.sat_model.specs.Stages.{first_stage}
+use Rattle.sat_model.specs.Logs.{Body, Block, lines_in, lines_of_body}
 use Rattle.sat_model.specs.declared.rules.Rules.{Rules}
 use Rattle.gnss_model.specs.declared.delays.Delays.{Delays}
 
 module _ (delays : Delays) (rules : Rules) (root : GridBox) (own : OwnLines) (block : Block) (body : Body) (paved : block.body ≡ Some body) where
-  many : lines_in block ≡ 3 + length block.sats + lines_of_all body.events
-  many = let here : lines_of_body block.body ≡ 2 + lines_of_all body.events = ap lines_of_body paved in omega (arith, here)
+  many : lines_in block ≡ 3 + length block.sats + lines_of_all body.events + lines_of_bounds body.bounds
+  many =
+      let here : lines_of_body block.body ≡ 2 + lines_of_all body.events + lines_of_bounds body.bounds = ap lines_of_body paved in
+      omega (arith, here)
 
   body_on_line : (other : Body) (fault : Fault) → other ≡ body
       → BodyFailsAt delays rules root own.renewed block other fault
       → fault.line < block.line + lines_in block
   body_on_line other fault same (inl f) = omega (arith, f.line, many)
   body_on_line other fault same (inr f) =
-      let within = events_within (own_tests delays own.renewed) (first_rows block other) rules other.done 0 (first_stage (test_in rules block) other.root) other.events f.k fault f.fails in
+      let within = body_within (own_tests delays own.renewed) rules block other f.k fault f.fails in
       let long : lines_of_all other.events ≡ lines_of_all body.events = ap (λ (b : Body). lines_of_all b.events) same in
-      omega (arith, f.line, many, within, long)
+      let far : lines_of_bounds other.bounds ≡ lines_of_bounds body.bounds = ap (λ (b : Body). lines_of_bounds b.bounds) same in
+      omega (arith, f.line, many, within, long, far)
 
   some_body : (other : Body) → block.body ≡ Some other → other ≡ body
   some_body other is = cc

@@ -5,6 +5,8 @@ pub mod SatLineLemmas
 pub mod BeforeLemmas
 pub mod EpochLemmas
 pub mod FirstFaultLemmas
+pub mod LastRowsLemmas
+pub mod BoundLemmas
 pub mod FitLemmas
 pub mod NarrowLemmas
 pub mod PlaceLemmas

@@ -28,7 +28,7 @@ use Rattle.sat_rows.specs.OwnRows.{HoldsChain, IsOwnRow, AreOwnLines, AreLinesOf
 use Rattle.sat_rows.specs.declared.lines.SatLine.{SatLine}
 use Rattle.sat_rows.specs.declared.lines.SatLine.TheVariants.{Usable, Skipped}
 use Rattle.paving_log_check.specs.Admissible.{FailsFrom}
-use Rattle.paving_log_check.specs.Epochs.{EventDiffers, EpochFails}
+use Rattle.paving_log_check.specs.Epochs.{EpochFails}
 use Rattle.paving_log_check.specs.Lines.{skipped_in, expected, HoldsSide, bounds_unless, compared, IsFirstNarrow, IsSameLine, RowFails}
 use Rattle.paving_log_check.specs.Narrow.{values, HoldsAround, IsTooNarrow, HasNarrowRow, HasNarrowBlock}
 use Rattle.paving_log_check.specs.OwnLines.{OwnLines, renewals_of, usable_of, AreOwnRows, AreRenewed, IsOwnOf, AreOwn}
@@ -366,17 +366,19 @@ module _ (m : Meaning) where
       let later = usable_seen root tag seens lines i seen own.1 e in
       record { is_seen = behind first seen seens later.is_seen; judged = later.judged }
 
-  body_narrow : (rules : Rules) (search : Search) (own : OwnLines) (block : Block) (body : Body) (fault : Fault)
+  body_narrow : (rules : Rules) (search : Search) (own : OwnLines) (block : Block) (body : Body) (k : ℕ) (fault : Fault)
       → IsOwnOf m search (renewals_of block.body) own → AllFair m.delays block.sats own.lines
       → block.body ≡ Some body
-      → EventDiffers m.delays rules search.root own.renewed block body fault → fault.number ≡ 53
+      → EventsFail (own_tests m.delays own.renewed) (first_rows block body) rules body.done
+      0 (first_stage (test_in rules block) body.root) body.events k fault
+      → fault.number ≡ 53
       → HasNarrowRow m search block fault
-  body_narrow rules search own block body fault are fair is event e =
+  body_narrow rules search own block body k fault are fair is fails e =
       let seens = search.epoch.sats.items in
       let given = ap renewals_of is in
       let rows : AreRenewed m search.epoch.tag (usable_of seens own.lines) (renewals_in body.events) own.renewed = rw given at are.renewed in
       let h = events_narrow own.renewed (first_rows block body) search.epoch.tag (usable_of seens own.lines) rules body.done
-      0 (first_stage (test_in rules block) body.root) body.events own.renewed event.k fault (λ i. ap (slice_get own.renewed) (omega arith)) rows event.fails e in
+      0 (first_stage (test_in rules block) body.root) body.events own.renewed k fault (λ i. ap (slice_get own.renewed) (omega arith)) rows fails e in
       let usable = usable_seen search.root search.epoch.tag seens own.lines h.i h.sat are.lines h.is_sat in
       let names = first_sats search.root search.epoch.tag seens block.sats own.lines fair are.lines in
       record {
@@ -431,7 +433,11 @@ module _ (m : Meaning) where
   epoch_narrow rules search own block fault are (inr (inr (inl missing))) e = absurd (omega (arith, missing.number))
   epoch_narrow rules search own block fault are (inr (inr (inr b))) e = elim b.fails [
     | inl differs ↦ absurd (omega (arith, differs.number))
-    | inr event ↦ body_narrow rules search own block b.body fault are (fair_block m.delays block b.body own.lines b.is_body b.sats b.whole) b.is_body event e
+    | inr event ↦ elim event.fails [
+      | inl fails ↦ body_narrow rules search own block b.body event.k fault are
+          (fair_block m.delays block b.body own.lines b.is_body b.sats b.whole) b.is_body fails e
+      | inr bound ↦ let number : fault.number ≡ 66 = bound.number in absurd (omega (arith, number, e))
+    ]
   ]
 
   -- ---- the log

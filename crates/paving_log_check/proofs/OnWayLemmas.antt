@@ -30,7 +30,7 @@ module _ (delays : Delays) (rules : Rules) (root : GridBox) (renewed : List (Lis
       → BodyFolds theirs
   body_folds None h = tt
   body_folds (Some body) h =
-      steps_fold (HoldsGiven delays renewed) (first_rows block body) rules body.done 0 (first_stage (test_in rules block) body.root) body.events h.1
+      steps_fold (HoldsGiven delays renewed) (first_rows block body) rules body.done 0 (first_stage (test_in rules block) body.root) body.events h.1.events
 
   -- its body has the root of the search
   pub body_root : (theirs : Option Body) → BodyPassesAt delays rules root renewed block theirs

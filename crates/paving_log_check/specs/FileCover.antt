@@ -1,11 +1,13 @@
 -- What an accepted log claims of the files: in each paved epoch its in and edge boxes keep whatever
--- fits, and each in box fits at its clock.
+-- fits, each in box fits at its clock, and its bounds hold whatever fits.
 use Rattle.std.specs.Prelude.{◌≡◌, ℕ, ℤ, true, List, [], ◌∷◌, Option, None, Some}
 use Rattle.epoch_selection.specs.Searches.{Search}
 use Rattle.grid_model.specs.Boxes.{GridBox, box_holds}
+use Rattle.sat_model.specs.Bounds.{BoundValue}
 use Rattle.sat_model.specs.Cover.{Partitions, SomeKeeps}
 use Rattle.sat_model.specs.Events.{steps_in}
 use Rattle.sat_model.specs.Fold.{ShownStep, pieces}
+use Rattle.sat_model.specs.HalfSpaces.{IsInHalfSpace}
 use Rattle.sat_model.specs.Logs.{Body, Block, LogValue}
 use Rattle.grid_model.specs.declared.boxes.Pos.{Pos}
 use Rattle.sat_model.specs.declared.steps.Step.{Step}
@@ -35,13 +37,24 @@ pub record FitCover (FitsAt : Pos → ℤ → Type 0) (root : GridBox)
   pub covers : (p : Pos) (b : ℤ) → box_holds root p ≡ true → FitsAt p b → SomeKeeps p b parts
   pub fits_inside : AllFitInside FitsAt parts
 
+-- each point of the root where something fits lies in each of the half-spaces
+abbrev pub AreFitBounds : (Pos → ℤ → Type 0) → GridBox → List BoundValue → Type 0
+AreFitBounds FitsAt root [] = Unit {0}
+AreFitBounds FitsAt root (bound ∷ more) =
+    ((p : Pos) (b : ℤ) → box_holds root p ≡ true → FitsAt p b → IsInHalfSpace bound.half p)
+    × AreFitBounds FitsAt root more
+
+-- the pieces cover what fits, and the bounds hold it
+pub record FitBounded (FitsAt : Pos → ℤ → Type 0) (root : GridBox) (body : Body) : Type 0 where
+  pub epoch : FitCover FitsAt root (pieces root (steps_in body.events))
+  pub bounded : AreFitBounds FitsAt root body.bounds
+
 abbrev pub FitBodyCover : (Pos → ℤ → Type 0) → GridBox → Option Body → Type 0
 FitBodyCover FitsAt root None = Unit {0}
-FitBodyCover FitsAt root (Some body) =
-    FitCover FitsAt root (pieces root (steps_in body.events))
+FitBodyCover FitsAt root (Some body) = FitBounded FitsAt root body
 
 -- Each search has a block, and each of those that is paved covers what fits all but at most q
--- usable satellites, by what a source says of satellites.
+-- usable satellites, and bounds it, by what a source says of satellites.
 abbrev pub BlocksFitCover : Meaning → ℕ → List Search → List Block → Type 0
 BlocksFitCover m q [] [] = Unit {0}
 BlocksFitCover m q [] (block ∷ more) = ⊥

@@ -1,14 +1,16 @@
 -- The own rows that are formed of bases while a block's renewals are tested, and what is found by
 -- them. No public clause cites it.
-use Rattle.std.specs.Prelude.{◌≡◌, ℕ, ◌-◌, ◌≤◌, ◌⊎◌, List, [], ◌∷◌, length, min, Option, None}
+use Rattle.std.specs.Prelude.{◌≡◌, ℕ, ◌+◌, ◌-◌, ◌≤◌, ◌⊎◌, List, [], ◌∷◌, length, min, Option, None}
 use Rattle.std.specs.Prelude.{Some, slice_get}
 use Rattle.gnss_model.specs.declared.delays.Delays.{Delays}
 use Rattle.grid_model.specs.Boxes.{GridBox, IsInside}
 use Rattle.sat_model.specs.BoxTests.{test_of}
 use Rattle.sat_model.specs.Events.{Event, Made, Renewed, RowsOver, rows_over, renewals_in, lines_of}
+use Rattle.sat_model.specs.Events.{lines_of_all}
 use Rattle.sat_model.specs.Fold.{Subpaving}
 use Rattle.sat_model.specs.Logs.{Body, Block}
 use Rattle.sat_model.specs.Renewals.{IsOfPlace, RenewalPasses, RenewalFails}
+use Rattle.sat_model.specs.ShownBounds.{AreBoundsShown, IsFirstUnshown}
 use Rattle.sat_model.specs.Stages.{first_stage}
 use Rattle.sat_model.specs.Verdicts.{EventsPass, EventsFail}
 use Rattle.sat_model.specs.declared.rows.Row.{Row}
@@ -130,6 +132,26 @@ module _ (delays : Delays) where
       pub many : AreManyBefore bases k events renewed
       pub fails : EventsFail (own_tests delays renewed) (rows_over root firsts) rules done
           0 (first_stage (test_of rules firsts) root) events k fault
+
+    -- ---- with the bounds behind them
+
+    pub record ClosingHolds (rules : Rules) (body : Body) : Type 0 where
+      pub events : EventsHold rules body.done body.events
+      pub bounds : AreBoundsShown rules.outliers (rows_over root firsts) body.events body.bounds
+
+    -- all up to the splits pass, and a bound, whose line is k lines behind the root, is the first
+    -- that isn't shown
+    pub record BoundBreaks (rules : Rules) (body : Body) (k : ℕ) (fault : Fault) : Type 0 where
+      pub events : EventsHold rules body.done body.events
+      pub m : ℕ
+      pub unshown : IsFirstUnshown rules.outliers (rows_over root firsts) body.events body.bounds m
+      pub line : k ≡ lines_of_all body.events + 1 + m
+      pub number : fault.number ≡ 66
+      pub no_spans : ShowsNoSpans fault
+
+    abbrev pub ClosingBreaks : Rules → Body → ℕ → Fault → Type 0
+    ClosingBreaks rules body k fault =
+        EventsBreak rules body.done body.events k fault ⊎ BoundBreaks rules body k fault
 
   -- ---- a block against own lines, as far as rows are formed
 

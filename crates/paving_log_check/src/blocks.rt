@@ -9,7 +9,7 @@ ghost use Rattle.sat_model.specs.Verdicts.{BodyPasses, BodyFailsBy, BlockPasses,
 ghost use Rattle.paving_log.specs.Values.{body_value, block_of};
 ghost use Rattle.paving_log_check.specs.Answers.{ShowsNoSpans};
 
-use crate::events::events_fault;
+use crate::closing::closing_fault;
 use crate::faults::plain_fault;
 use crate::renewals::RenewalTest;
 use crate::verdict::Fault;
@@ -45,7 +45,7 @@ fn body_fault(
         bases: &[],
     };
     let line = epoch.line + 2 + epoch.sats.len() as u32;
-    events_fault(alloc, line, &given, rules, body)
+    closing_fault(alloc, line, &given, rules, body)
 }
 
 /// The first line of the block that fails a test, its rows taken as given.

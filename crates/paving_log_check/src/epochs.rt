@@ -16,7 +16,7 @@ ghost use Rattle.paving_log_check.specs.Epochs.{Counts};
 ghost use Rattle.paving_log_check.specs.OwnLines.{renewals_of};
 ghost use Rattle.paving_log_check.specs.Forming.{BodyHolds, BodyBreaks, EpochHolds, EpochBreaks};
 
-use crate::events::events_fault;
+use crate::closing::closing_fault;
 use crate::faults::{ROOT_DIFFERS, plain_fault};
 use crate::renewals::RenewalTest;
 use crate::sat_lines::{expected_lines, sats_fault};
@@ -113,7 +113,7 @@ fn body_fault(
         bases: &given.own.bases,
     };
     let line = epoch.line + 2 + epoch.sats.len() as u32;
-    events_fault(alloc, line, &test, rules, body)
+    closing_fault(alloc, line, &test, rules, body)
 }
 
 /// The first line of a block that fails a test against own lines of its epoch.

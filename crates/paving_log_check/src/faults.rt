@@ -34,6 +34,8 @@ pub const NOT_CLOSED: u8 = 63;
 pub const COUNT_DIFFERS: u8 = 64;
 /// Rows are renewed over a box that isn't in the root, or that a live box isn't in.
 pub const BAD_RENEWAL: u8 = 65;
+/// A bound isn't shown.
+pub const BOUND_NOT_SHOWN: u8 = 66;
 
 /// A fault that shows no spans.
 pub fn plain_fault(line: u32, number: u8) -> Fault

@@ -9,7 +9,6 @@ ghost use Rattle.sat_model.specs.Logs.{Block, lines_in, IsNumbered};
 ghost use Rattle.sat_model.specs.declared.rules.Rules.{Rules};
 ghost use Rattle.gnss_model.specs.declared.delays.Delays.{Delays};
 ghost use Rattle.paving_log.specs.Values.{block_of, log_value};
-ghost use Rattle.paving_log_check.specs.Renewed.{lines_in_renewals};
 ghost use Rattle.paving_log_check.specs.Answers.{IfYes, IfNo};
 ghost use Rattle.paving_log_check.specs.Admissible.{AreSameRules, IsOf, IsDue, BlockFault};
 ghost use Rattle.paving_log_check.specs.Epochs.{EpochFails};
@@ -18,13 +17,14 @@ ghost use Rattle.paving_log_check.specs.Checked.{IsAccepted, IsRefused};
 ghost use Rattle.paving_log_check.specs.Taken.{IsTakenBy};
 
 use crate::blocks::kept_boxes;
+use crate::counts::{bound_lines, event_lines};
 use crate::epochs::check_epoch;
 use crate::faults::{RULES_DIFFER, plain_fault};
 use crate::verdict::{Fault, Verdict};
 use crate::walks::LogWalk;
 use epoch_selection::Walk;
 use grid_model::{Box3, NoMemory};
-use paving_log::{EPOCH_DIFFERS, Log, LogEpoch, Renewal, is_later, suits};
+use paving_log::{EPOCH_DIFFERS, Log, LogEpoch, is_later, suits};
 use rinex_obs::ObsEpoch;
 use sat_model::Rules;
 use sat_rows::RowSource;
@@ -97,28 +97,13 @@ fn is_due<'a, W: LogWalk<'a>>(
     }
 }
 
-/// How many lines renewals have.
-fn renewal_lines(renewals: &[Renewal]) -> u32
-    requires { lines_in_renewals renewals.now ≤ 4000000001 }
-    ensures { result ≡ lines_in_renewals renewals.now }
-{
-    let mut lines = 0;
-    for renewal in renewals {
-        lines += 1 + renewal.rows.len() as u32;
-    }
-    lines
-}
-
 /// How many lines a block has.
 fn lines_of(epoch: &LogEpoch) -> u32
     requires { lines_in (block_of epoch.now) ≤ 4000000001 }
     ensures { result ≡ lines_in (block_of epoch.now) }
 {
     match &epoch.body {
-        Some(body) => {
-            let steps = body.steps.len() as u32;
-            3 + epoch.sats.len() as u32 + steps + renewal_lines(&body.renewals)
-        }
+        Some(body) => 3 + epoch.sats.len() as u32 + event_lines(body) + bound_lines(&body.bounds),
         None => 1 + epoch.sats.len() as u32,
     }
 }
@@ -143,7 +128,8 @@ fn first_of(own_fault: Fault, behind: u32, due: bool) -> Fault
 /// boxes closed inside or at the edge, or no with the first line that fails a test. A yes means that
 /// the log has a block for each search, and that in each paved one the inside and edge boxes keep
 /// every point of the root and clock offset that all but at most `outliers` usable satellites are
-/// consistent with. Each block is tested against the root in which the walk searches its epoch.
+/// consistent with, and its bounds hold every such point. Each block is tested against the root in
+/// which the walk searches its epoch.
 pub fn check_with<'a, S: RowSource, W: LogWalk<'a>>(
     alloc: Global,
     source: &S,

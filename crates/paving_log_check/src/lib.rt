@@ -3,7 +3,10 @@
 #![tactic(auto)]
 
 mod blocks;
+mod bounds;
 mod claims;
+mod closing;
+mod counts;
 mod epochs;
 mod events;
 mod faults;

@@ -16,7 +16,8 @@ use std::alloc::Global;
 /// Judges a log with its rows taken as given: yes with the number of boxes closed inside or at the
 /// edge, or no with the first line that fails a test. A yes means that in each paved epoch the
 /// pieces partition the root, the inside and edge boxes cover what all but at most `outliers` rows
-/// may fit, and all but at most as many rows surely fit each inside box at its clock offset.
+/// may fit, all but at most as many rows surely fit each inside box at its clock offset, and each
+/// bound holds what all but at most as many may fit.
 pub fn judge(alloc: Global, log: &Log) -> Result<Verdict, NoMemory>
     requires numbered { IsNumbered (log_value log.now) }
 

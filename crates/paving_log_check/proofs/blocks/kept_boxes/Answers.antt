@@ -19,7 +19,7 @@ returns-in-Some-clause-value c rules h =
     let value = body_value body in
     let block = block_of c.args.epoch.now in
     let passes = rw c.in-Some.is at h in
-    let kept = kept_of_steps AnyLine (first_rows block value) rules body.done 0 (first_stage (test_in rules block) (grid_box body.root)) value.events passes in
+    let kept = kept_of_steps AnyLine (first_rows block value) rules body.done 0 (first_stage (test_in rules block) (grid_box body.root)) value.events passes.events in
     rw c.in-Some.is (omega (arith, c.kept.ensures, kept, ap (λ (steps : List Step). count_by is_kept_step steps) (steps_in_events 0 (steps_of body.steps) body.renewals.items)))
 
 pub returns-in-Some-clause-bound : goal.returns-in-Some-clause-bound

@@ -21,22 +21,22 @@ returns-then-not-is_same_box c = record {
   });
 }
 
-pub events_fault-requires-clause-rows : goal.events_fault-requires-clause-rows
-events_fault-requires-clause-rows c =
+pub closing_fault-requires-clause-rows : goal.closing_fault-requires-clause-rows
+closing_fault-requires-clause-rows c =
     let rows = c.deref-2.ensures.value ∙ c.in_ok-rows.ensures ∙ ap rows_of c.deref.ensures.value in
     omega (arith, ap length rows, rows_le_lines c.args.epoch.now.sats.items, c.args.epoch.now.at_most)
 
-pub events_fault-requires-clause-ready : goal.events_fault-requires-clause-ready
-events_fault-requires-clause-ready c = rw c.deref-3.ensures.value c.requires.ready
+pub closing_fault-requires-clause-ready : goal.closing_fault-requires-clause-ready
+closing_fault-requires-clause-ready c = rw c.deref-3.ensures.value c.requires.ready
 
-pub events_fault-requires-clause-numbered : goal.events_fault-requires-clause-numbered
-events_fault-requires-clause-numbered c =
+pub closing_fault-requires-clause-numbered : goal.closing_fault-requires-clause-numbered
+closing_fault-requires-clause-numbered c =
     omega (arith, c.requires.numbered, ap (λ o. lines_of_body (body_option o)) c.requires.body, c.args.epoch.now.at_most)
 
 pub returns : goal.returns
 returns c =
     let given = c.args.given.now in
     let rows = c.deref-2.ensures.value ∙ c.in_ok-rows.ensures ∙ ap rows_of c.deref.ensures.value in
-    let found = rw c.deref-3.ensures.value at c.events_fault.ensures in
+    let found = rw c.deref-3.ensures.value at c.closing_fault.ensures in
     body_at given.delays c.args.rules.now (grid_box given.root.now) given.own.now.lines.items given.own.now.bases.items (block_of c.args.epoch.now) (body_value c.args.body.now)
-    c.events_fault.result _ _ (c.is_same_box.ensures.0 c.if-not-is_same_box.false) rows found (omega (arith, c.len-2.ensures, c.args.epoch.now.sats.ok))
+    c.closing_fault.result _ _ (c.is_same_box.ensures.0 c.if-not-is_same_box.false) rows found (omega (arith, c.len-2.ensures, c.args.epoch.now.sats.ok))

@@ -13,7 +13,7 @@ use Rattle.paving_log_check.proofs.folds.judged_folds.Goals as goal
 body_folds : (rules : Rules) (block : Block) (body : Option Body) → BodyPasses rules block body
     → BodyFolds body
 body_folds rules block None h = tt
-body_folds rules block (Some body) h = steps_fold AnyLine (first_rows block body) rules body.done 0 (first_stage (test_in rules block) body.root) body.events h
+body_folds rules block (Some body) h = steps_fold AnyLine (first_rows block body) rules body.done 0 (first_stage (test_in rules block) body.root) body.events h.events
 
 pub returns : goal.returns
 returns c before passes = body_folds c.args.rules.now (block_of c.args.epoch.now) (block_of c.args.epoch.now).body passes.body

@@ -1,5 +1,5 @@
 use Rattle.std.proofs.Common.{arith}
-use Rattle.sat_model.proofs.CoverLemmas.{row_cover}
+use Rattle.sat_model.proofs.BoundLemmas.{row_cover}
 use Rattle.sat_model.proofs.FaultLemmas.{one_first_fault}
 use Rattle.sat_model.proofs.VerdictLemmas.{not_both}
 use Rattle.paving_log.specs.Values.{log_value}
