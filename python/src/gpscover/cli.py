@@ -7,6 +7,7 @@ import sys
 from collections.abc import Sequence
 
 from gpscover import (
+    begin,
     bounds,
     evidence,
     export,
@@ -26,6 +27,7 @@ from gpscover.command import Command, run_tool
 from gpscover.errors import UsageError
 
 MODULES = (
+    begin,
     summary,
     pictures,
     page,
