@@ -17,7 +17,7 @@ from pathlib import Path
 
 from made_logs import EXAMPLES, HEAD, PAVED, RECORDED, TUBE, WITHIN, ended
 
-from gpscover import bounds, evidence, export, files, known, pictures, risk, shapes, summary
+from gpscover import bounds, evidence, export, files, known, observed, pictures, risk, shapes, summary
 from gpscover import suspects, zones
 from gpscover.settings import Settings, SettingsError
 
@@ -85,6 +85,8 @@ def call_of(draw, room):
             (summary, log, "--obs", path_of(draw, room, "obs")),
             (known, log, places, "--limit", number(draw), number(draw)),
             (known, log, places, "--along", places),
+            (observed, log, "--places", places),
+            (observed, log, "--place", number(draw), "1", "0", "--csv"),
             (suspects, "log", log),
             (suspects, "open", log, log, path_of(draw, room, "settings"), "--program", "/nonexistent"),
             (bounds, log, number(draw), "0", "0", "single", "--mask", number(draw)),

@@ -1,7 +1,8 @@
 """Evidence of a run, by the program of GPSCOVER or of ./gpscover.
 
 A bundle is made of one epoch of the example with eight splits, and one of a track of two. Then it is checked in another
-folder, and each of sixteen changes of the one and three of the other has to be told by the line that it concerns.
+folder, and each of nineteen changes of the one, three of the other and four of one with zones has to be told by the line that it
+concerns.
 """
 
 import os
@@ -57,6 +58,9 @@ CHANGES = (
     ("an option", edited("evidence.txt", "--to 1", "--to 2"), "check: "),
     ("a line less", edited("evidence.txt", r"(?m)^recheck .*\n", ""), "the lines of evidence.txt aren't those"),
     ("a name that leaves the folder", edited("evidence.txt", "(?m)^obs receiver.obs", "obs ../my.obs"), "obs: "),
+    ("the words of q", edited("evidence.txt", "(?m)^q at most 1", "q at most 2"), "q: "),
+    ("the words of a bound", edited("evidence.txt", "receiver -3.000", "receiver -4.000"), "bounds: "),
+    ("the words of an epoch", edited("evidence.txt", r"(?m)^(epoch-1 .* of) \d", r"\g<1> "), "epoch-1: "),
     ("a file more", with_file, "more.log doesn't belong to the bundle"),
     ("a file less", lambda folder: (folder / "receiver.nav").unlink(), "receiver.nav is missing"),
 )
@@ -114,12 +118,12 @@ class Room:
         shutil.copytree(self.bundle, folder)
         return folder
 
-    def expect_told(self, changes):
+    def expect_told(self, changes, *words):
         """Each change of a copy is told by a line that begins with the pattern beside it."""
         for name, change, told in changes:
             folder = self.copy()
             change(folder)
-            status, said = self.check(folder)
+            status, said = self.check(folder, *words)
             assert status == 1
             assert re.search(f"\n{told}", said)
 
@@ -127,14 +131,14 @@ class Room:
 class TestRefused:
     """What isn't a bundle is refused before a checker is asked: no program is needed."""
 
-    SHEET = "gpscover evidence 1\noptions --from 1 --to 1\n"
+    SHEET = "gpscover evidence 2\noptions --from 1 --to 1\n"
     NO_SHEETS = (
         "",
         "\n",
-        "gpscover evidence 1",
-        "gpscover evidence 1\noptions --from 1 --to 1 --to 2\n",
-        "gpscover evidence 1\noptions --from 1 --to 200001\n",
-        "gpscover evidence 1\noptions --from \u0661 --to 1\n",
+        "gpscover evidence 2",
+        "gpscover evidence 2\noptions --from 1 --to 1 --to 2\n",
+        "gpscover evidence 2\noptions --from 1 --to 200001\n",
+        "gpscover evidence 2\noptions --from \u0661 --to 1\n",
     )
 
     def refused(self, *words):
@@ -212,6 +216,22 @@ class TestBundles(Room):
     def test_each_change_is_told(self):
         self.expect_told((name, change, re.escape(told)) for name, change, told in CHANGES)
 
+    def test_each_change_is_told_without_the_program_but_those_of_its_lines(self):
+        names = ("the number of boxes", "the program's checksum", "the versions")
+        told = [(name, change, re.escape(said)) for name, change, said in CHANGES if name not in names + ("an option",)]
+        self.expect_told(told, "--second-only")
+        folder = self.copy()
+        status, said = self.check(folder, "--second-only", "--program", "/nonexistent")
+        assert (status, said[:26]) == (0, "the bundle is as it says: ") and "the first one wasn't run" in said
+
+    def test_what_is_signed_stands_in_words(self):
+        assert self.lines["q"] == "at most 1 of an epoch's satellites broke their bounds"
+        assert "receiver -3.000 to 3.000; orbit_clock" in self.lines["bounds"]
+        assert self.lines["search"].endswith("z 3716365.893700 to 3718365.893700 m")
+        assert "G05 2.194 to 9.891" in self.lines["satellites"] and "G01" not in self.lines["satellites"]
+        assert re.match("2008-05-26 05:59:29.999 GPS time: in a region of [0-9.]+ m east", self.lines["epoch-1"])
+        assert "speed" not in self.lines
+
     def test_a_bundle_that_is_consistent_but_another_is_told_by_its_checksum(self):
         folder = self.copy()
         with open(folder / "settings.toml", "a", encoding="utf-8") as file:
@@ -231,7 +251,7 @@ class TestBundles(Room):
         assert self.check(folder, "--other-program")[0] == 0
 
     def test_what_is_no_evidence_is_refused(self):
-        for old, new in (("gpscover evidence 1", "gpscover evidence 2"), ("--to 1", "--to 0"), ("options ", "option ")):
+        for old, new in (("gpscover evidence 2", "gpscover evidence 3"), ("--to 1", "--to 0"), ("options ", "option ")):
             folder = self.copy()
             edited("evidence.txt", old, new)(folder)
             assert "this isn't evidence of gpscover, or it was changed" in self.check(folder)[1]
@@ -294,6 +314,7 @@ class TestTracks(Room):
         assert (lines["retrack"], lines["recheck"]) == (f"yes {boxes_in(self.files[3])}",) * 2
         assert "check" not in lines
         assert lines["options"] == "--track --from 1 --to 2"
+        assert lines["speed"] == "at most 3.000 m/s on the straight way from each epoch to the next"
         assert (
             lines["epochs"]
             == "4 in the file, 2 in the log: 2 paved, 0 few, 0 empty, 0 reach the search box; 2 left out"
@@ -318,6 +339,44 @@ class TestTracks(Room):
             "4 in the file, 2 in the log: 2 paved, 0 few, 1 empty, 0 reach the search box; 2 left out;"
             " the track ends with epoch 2, which keeps no box"
         )
+
+
+FENCES = "gpszones 2\nzone here -4000000000000 3000000000000 3000000000000 -3000000000000 4000000000000 4000000000000\n"
+ZONE_CHANGES = (
+    ("a zone", edited("receiver.zones", "zone here -4", "zone here -5"), "zones: "),
+    ("an answer", edited("receiver.answers", "inside", "outside"), "answers: "),
+    (
+        "the sum of the answers",
+        edited("evidence.txt", "(?m)^zone-here outside 0", "zone-here outside 1"),
+        "zone-here: ",
+    ),
+    ("that there are zones", edited("evidence.txt", r"(?m)^zones .*\n", ""), "receiver.answers doesn't belong"),
+)
+
+
+class TestZones(Room):
+    @classmethod
+    def setup_class(cls):
+        super().setup_class()
+        cls.files = receiver_in(cls.room)
+        subprocess.run([PROGRAM, "solve", *cls.files, "--to", "1"], stdout=subprocess.DEVNULL, check=True)
+        fences = cls.room / "my.zones"
+        fences.write_text(FENCES, encoding="utf-8")
+        cls.bundle = cls.room / "bundle"
+        words = ["make", cls.bundle, *cls.files, "--to", "1", "--zones", fences, "--program", PROGRAM]
+        cls.status, said, _ = ended_with(evidence, *words)
+        cls.lines = dict(line.split(" ", 1) for line in said.splitlines())
+
+    def test_the_program_and_the_boxes_say_the_same(self):
+        assert self.status == 0
+        assert self.lines["zone-here"] == "outside 0 inside 1 open 0 few 0"
+        assert self.lines["guard"] == self.lines["again"] == "the 2 lines of receiver.answers"
+        assert (self.bundle / "receiver.answers").read_text().startswith("epoch 1 zone here inside\n")
+        assert self.check(self.copy())[0] == 0
+        assert self.check(self.copy(), "--second-only")[0] == 0
+
+    def test_each_change_is_told(self):
+        self.expect_told((name, change, re.escape(told)) for name, change, told in ZONE_CHANGES)
 
 
 PAIR = EXAMPLES / "station"

@@ -215,7 +215,10 @@ class TestWords:
 
     def test_places_of_another_time_are_refused(self):
         with written(
-            log=HEAD + WITHIN, other="2008/05/27 05:59:29.999 1 2 3\n", utc="2008/05/26 05:59:15.999 1 2 3\n", out=""
+            log=HEAD + WITHIN,
+            other="2008/05/27 05:59:29.999 6378137 2 3\n",
+            utc="2008/05/26 05:59:15.999 6378137 2 3\n",
+            out="",
         ) as (log, other, utc, out):
             for script, words in (
                 (summary, [log]),

@@ -69,6 +69,7 @@ class TestPictures:
                 (["zones", "--zones", fences, "--zone", "a"], "svg"),
                 (["integrity", "--limit", "150", "200"], "png"),
                 (["integrity"], "svg"),
+                (["observed"], "png"),
             ):
                 out = os.path.join(room, f"out.{ending}")
                 words = [words[0], log, out, *words[1:], "--places", known]

@@ -12,13 +12,16 @@ from gpscover import Box, suspects
 
 STUB = """#!/usr/bin/env python3
 import sys
-assert sys.argv[6:] in ([], ["--station", "c"])
-opened = "G03 = [-1000000, 1000000]" in open(sys.argv[4]).read()
-assert "outliers = 0" in open(sys.argv[4]).read()
-sats = "".join(f"sat G0{k} 0 0 0 0 0 0 0 0 0 0\\n" for k in (3, 4))
-for index in (1, 2):
-    kept = "edge 0 0 0" if opened or index == 2 else "out 0"
-    block = f"epoch {index} {index} 2\\n{sats}root 0 0 0 1 1 1\\n{kept}\\ndone 0\\n"
+words = sys.argv[6:]
+assert words[:2] == ["--station", "c"] or words[:1] in ([], ["--from"])
+settings = open(sys.argv[4]).read()
+assert "outliers = 0" in settings
+opened = {name for name in ("G03", "G04", "G05") if f"{name} = [-1000000, 1000000]" in settings}
+sats = "".join(f"sat G0{k} 0 0 0 0 0 0 0 0 0 0\\n" for k in (3, 4, 5))
+needed = {1: {"G03"}, 2: set(), 3: {"G04", "G05"}}
+for index in needed:
+    kept = "edge 0 0 0" if needed[index] <= opened else "out 0"
+    block = f"epoch {index} {index} 3\\n{sats}root 0 0 0 1 1 1\\n{kept}\\ndone 0\\n"
     open(sys.argv[5], "w" if index == 1 else "a").write(("gpscover 1\\nrules 0 0 1000\\n" if index == 1 else "") + block)
 """
 
@@ -89,7 +92,8 @@ class TestSuspects:
             os.chmod(stub, 0o755)
             runs = [suspects.Runs(stub, "a", "b", room, station) for station in (None, "c")]
             lines, others = (list(suspects.opened_lines(it, "[search]\noutliers = 1\n")) for it in runs)
-        assert len(lines) == 2
+        assert len(lines) == 3
         assert re.search("^epoch 1 .* opening G03$", lines[0])
-        assert lines[1] == "epochs 2, of which 1 are empty at outliers = 0"
-        assert others == [lines[0], lines[1] + "; a fault is one at the receiver or the station"]
+        assert re.search("^epoch 3 .* opening G04[+]G05$", lines[1])
+        assert lines[2] == "epochs 3, of which 2 are empty at outliers = 0"
+        assert others == [*lines[:2], lines[2] + "; a fault is one at the receiver or the station"]

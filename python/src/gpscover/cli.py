@@ -7,12 +7,14 @@ import sys
 from collections.abc import Sequence
 
 from gpscover import (
+    begin,
     bounds,
     evidence,
     export,
     files,
     frames,
     known,
+    observed,
     page,
     pictures,
     risk,
@@ -24,7 +26,23 @@ from gpscover import (
 from gpscover.command import Command, run_tool
 from gpscover.errors import UsageError
 
-MODULES = (summary, pictures, page, export, frames, known, suspects, bounds, risk, shapes, zones, evidence, files)
+MODULES = (
+    begin,
+    summary,
+    pictures,
+    page,
+    export,
+    frames,
+    known,
+    suspects,
+    bounds,
+    observed,
+    risk,
+    shapes,
+    zones,
+    evidence,
+    files,
+)
 COMMANDS = {module.COMMAND.name: module.COMMAND for module in MODULES}
 ABOUT = "Reads, draws and judges the logs of gpscover. `gpslog COMMAND --help` tells of each."
 

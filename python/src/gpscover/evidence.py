@@ -1,8 +1,9 @@
 """Puts the evidence of a run together in one folder, and checks a bundle that somebody else made.
 
-usage: gpslog evidence make FOLDER OBS NAV SETTINGS LOG [--station STATION] [--track] [--from N]
-[--to N] [--program GPSCOVER]
-       gpslog evidence check FOLDER [--sha256 HEX] [--other-program] [--program GPSCOVER]
+usage: gpslog evidence make FOLDER OBS NAV SETTINGS LOG [--station STATION] [--zones ZONES] [--track]
+[--from N] [--to N] [--program GPSCOVER]
+       gpslog evidence check FOLDER [--sha256 HEX] [--other-program | --second-only] [--program
+GPSCOVER]
 
 `make` copies the four files into a new FOLDER, has both checkers test the log, GPSCOVER (the
 program that ./gpscover runs) and second/recheck.py, and writes FOLDER/evidence.txt: the sizes and
@@ -12,15 +13,21 @@ or are left out, which are those that the log doesn't have. --from and --to are 
 was solved with. --track says that it is one of `track`: it is checked as one, by `retrack` and by
 recheck.py --track, and where it ends with an epoch that keeps no box this one is named. --station
 names the observation file of the station of a log that was solved with one: it is a fifth file of
-the bundle, and both checkers are given it. Where not both checkers say yes, of as many boxes, there is no evidence: nothing is left, and the verdicts are
-printed. The checksum of evidence.txt, which is printed last, is what is signed or sent by another
-way.
+the bundle, and both checkers are given it. --zones names a file of zones: it is in the bundle too,
+with what `guard` of GPSCOVER says of it as receiver.answers, which `gpslog answers` has to say of
+the log's boxes as well. Where not both checkers say yes, of as many boxes, or the answers differ,
+there is no evidence: nothing is left, and the verdicts are printed.
+
+evidence.txt begins with what is signed, in words: what is declared, and behind the verdicts a line
+for each epoch with where the receiver was then. The checksum of evidence.txt, which is printed
+last, is what is signed or sent by another way.
 
 `check` makes all of this anew from these files and tells each line of evidence.txt that is
 another, each file that is missing and each that doesn't belong there. Where anything in FOLDER
 isn't a file of its own, but a link, a folder or a device, nothing of it is read. --sha256 compares
 the checksum of evidence.txt too. Where the checkers or the versions here are others, that is told
-as well; with --other-program only what they say has to be the same.
+as well; with --other-program only what they say has to be the same. With --second-only GPSCOVER isn't
+run: the second checker and `gpslog answers` alone have to say what the bundle does.
 
 docs/CERTIFIER.md says what such a bundle shows and what it doesn't.
 
@@ -43,12 +50,16 @@ from collections.abc import Iterator, Sequence
 from dataclasses import dataclass
 from pathlib import Path
 
+from gpscover import zones
 from gpscover.command import Command
 from gpscover.errors import Error
 from gpscover.log import PathLike, epochs
 from gpscover.observations import file_epochs
 from gpscover.program import home, own_program
 from gpscover.region import reaches
+from gpscover.settings import Settings
+from gpscover.signed import claim_lines, epoch_lines
+from gpscover.zones import read_zones
 
 Lines = list[tuple[str, str]]  # name, and what is found
 
@@ -56,8 +67,10 @@ SECOND = "second/recheck.py"  # from the top of the repository
 SHEET = "evidence.txt"
 FILES = {"obs": "receiver.obs", "nav": "receiver.nav", "settings": "settings.toml", "log": "receiver.log"}
 STATION = {"station": "station.obs"}  # where there is one
-HEAD = "gpscover evidence 1"
-ITSELF = ("program", "second", "version")  # the lines that say who checked
+ZONES = {"zones": "receiver.zones", "answers": "receiver.answers"}  # where there are some
+HEAD = "gpscover evidence 2"
+ITSELF = ("program", "second", "version", "release")  # the lines that say who checked
+FIRST = ("program", "version", "release", "check", "retrack", "guard")  # those of the program
 GREATEST = 200_000  # the greatest epoch number
 OPTIONS = re.compile(r"(--track )?--from ([1-9]\d{0,5}) --to ([1-9]\d{0,5})", re.ASCII)
 
@@ -65,16 +78,17 @@ OPTIONS = re.compile(r"(--track )?--from ([1-9]\d{0,5}) --to ([1-9]\d{0,5})", re
 @dataclass
 class Options:
     """What a log was made with: its first and its last epoch, whether it is one of `track`, and
-    whether there was a station."""
+    whether there are a station and zones."""
 
     first: int
     last: int
     track: bool = False
     station: bool = False
+    zones: bool = False
 
     def files(self) -> dict[str, str]:
         """The names of the files by their roles."""
-        return FILES | STATION if self.station else FILES
+        return FILES | (STATION if self.station else {}) | (ZONES if self.zones else {})
 
     def station_words(self, folder: Path) -> list[str]:
         """The words that name the station's file, for both checkers."""
@@ -122,13 +136,20 @@ def version(program: str) -> str:
     return ", ".join([*lines, "another program"])
 
 
-def verdict(words: list[str]) -> str:
-    """What a checker says, or how it ended."""
+def release() -> str:
+    """The sums of the release and of the sources that it was proved and built of, and by which kit."""
+    lines = (home() / "release/SHA256SUMS").read_text(encoding="utf-8").splitlines()
+    sums = {name: first for first, _, name in (line.partition("  ") for line in lines)}
+    return f"sha256 {sums.get('gpscover')}, of sources with sha256 {sums.get('sources')}, {lines[-1]}"
+
+
+def verdict(words: list[str], between: str = " ") -> str:
+    """What a checker says, with this between its lines, or how it ended."""
     try:
         ran = subprocess.run(words, stdin=subprocess.DEVNULL, capture_output=True, text=True)
     except OSError as error:
         return f"can't be run: {error.strerror}"
-    said = " ".join((ran.stdout + ran.stderr).split("\n")).strip()
+    said = between.join((ran.stdout + ran.stderr).split("\n")).strip()
     return said if ran.returncode in (0, 1) else f"status {ran.returncode}: {said}"
 
 
@@ -154,22 +175,73 @@ def counts(folder: Path, options: Options) -> str:
     )
 
 
-def made(folder: Path, program: str, second: Path, options: Options) -> Lines:
-    """The lines of the evidence in order."""
+def answers(folder: Path) -> list[str]:
+    """What the log's boxes say of the zones, by `gpslog answers`."""
+    second, things = read_zones(folder / ZONES["zones"])
+    log = ((epoch.index, None if epoch.few else epoch.boxes) for epoch in epochs(folder / FILES["log"]))
+    return list(zones.lines(second, things, log))
+
+
+def guard_words(folder: Path, program: str, options: Options) -> list[str]:
+    """The words by which the program says it."""
+    files = [str(folder / name) for name in (*list(FILES.values())[:3], ZONES["zones"], FILES["log"])]
+    more = options.track_words() + options.epochs() + options.station_words(folder)
+    return [program, "guard", *files, *more]
+
+
+def compared(folder: Path, found: list[str]) -> str:
+    """Whether these answers are those of the bundle."""
+    there = (folder / ZONES["answers"]).read_text(encoding="utf-8", errors="replace").splitlines()
+    return f"the {len(there)} lines of {ZONES['answers']}" if there == found else f"others than {ZONES['answers']}"
+
+
+def zone_lines(folder: Path, program: str | None, options: Options) -> Iterator[tuple[str, str]]:
+    """Who says what of the zones, and what is said of all epochs together."""
+    if program is not None:
+        yield "guard", compared(folder, verdict(guard_words(folder, program, options), "\n").split("\n"))
+    try:
+        found = answers(folder)
+    except (Error, OSError) as error:
+        found = [str(error)]
+    yield "again", compared(folder, found)
+    for line in found:
+        kind, _, rest = line.partition(" ")
+        if kind in ("zone", "reach"):
+            name, _, told = rest.partition(" ")
+            yield f"{kind}-{name}", told
+
+
+def claims(folder: Path, options: Options) -> Lines:
+    """What is signed, in words."""
+    try:
+        return claim_lines(Settings.read(folder / FILES["settings"]), folder / FILES["log"], options.track)
+    except (Error, OSError) as error:
+        return [("claim", f"none: {error}".replace(str(folder) + "/", ""))]
+
+
+def regions(folder: Path) -> Iterator[tuple[str, str]]:
+    """Where the receiver was in each epoch, in words; up to where the log can be read."""
+    with contextlib.suppress(Error, OSError):
+        yield from epoch_lines(folder / FILES["log"])
+
+
+def made(folder: Path, program: str | None, second: Path, options: Options) -> Lines:
+    """The lines of the evidence in order; without a program those that need none."""
     files = [str(folder / name) for name in FILES.values()]
     command, chosen = options.command(), options.epochs()
     words = [*files, *chosen, *options.station_words(folder)]
     again = [sys.executable, str(second), *options.track_words(), *words]
-    return [
-        *((role, f"{name} {identity(folder / name)}") for role, name in options.files().items()),
-        ("program", identity(program)),
-        ("second", identity(second)),
-        ("version", version(program)),
-        ("options", " ".join(options.track_words() + chosen)),
-        (command, verdict([program, command, *words])),
-        ("recheck", verdict(again)),
-        ("epochs", counts(folder, options)),
-    ]
+    lines = claims(folder, options)
+    lines += [(role, f"{name} {identity(folder / name)}") for role, name in options.files().items()]
+    if program is not None:
+        lines += [("program", identity(program)), ("version", version(program)), ("release", release())]
+    lines += [("second", identity(second)), ("options", " ".join(options.track_words() + chosen))]
+    if program is not None:
+        lines.append((command, verdict([program, command, *words])))
+    lines += [("recheck", verdict(again)), ("epochs", counts(folder, options))]
+    if options.zones:
+        lines += zone_lines(folder, program, options)
+    return [*lines, *regions(folder)]
 
 
 def sheet(lines: Lines) -> str:
@@ -178,17 +250,20 @@ def sheet(lines: Lines) -> str:
 
 
 def dissent(said: dict[str, str], command: str) -> str:
-    """What both checkers say where it isn't the same yes, or an empty text."""
-    if said[command].startswith("yes ") and said["recheck"] == said[command]:
-        return ""
-    return f"{command} says {said[command]}, recheck says {said['recheck']}"
+    """What the checkers that were asked say where it isn't the same yes, or an empty text."""
+    first = said.get(command, said["recheck"])
+    if not first.startswith("yes ") or said["recheck"] != first:
+        return f"{command} says {first}, recheck says {said['recheck']}"
+    told = [f"{who} says {said[who]}" for who in ("guard", "again") if said.get(who, "").startswith("others ")]
+    return ", ".join(told)
 
 
 def run_make(args: argparse.Namespace) -> None:
     """Makes a bundle."""
-    folder, has_station = Path(args.bundle), args.station is not None
-    options = Options(args.first, args.last, args.track, has_station)
-    paths = [args.obs, args.nav, args.settings, args.log, *([args.station] * has_station)]
+    folder = Path(args.bundle)
+    options = Options(args.first, args.last, args.track, args.station is not None, args.zones is not None)
+    more = [path for path in (args.station, args.zones) if path is not None]
+    paths = [args.obs, args.nav, args.settings, args.log, *more]
     program = str(args.program or own_program())
     folder.mkdir()
     try:
@@ -204,6 +279,9 @@ def fill(folder: Path, paths: Sequence[PathLike], program: str, second: Path, op
     """Puts the files of a bundle and its evidence into a folder. The evidence's lines."""
     for path, name in zip(paths, options.files().values()):
         shutil.copyfile(path, folder / name)
+    if options.zones:
+        told = verdict(guard_words(folder, program, options), "\n")
+        (folder / ZONES["answers"]).write_text(f"{told}\n", encoding="utf-8", newline="\n")
     lines = made(folder, program, second, options)
     if told := dissent(dict(lines), options.command()):
         raise Error(f"no evidence: {told}")
@@ -220,7 +298,8 @@ def read_sheet(folder: Path) -> tuple[Lines, Options]:
     if lines[:1] != [HEAD] or not found or max(map(int, found.groups()[1:])) > GREATEST:
         raise Error(f"{folder / SHEET}: this isn't evidence of gpscover, or it was changed")
     track, first, last = found.groups()
-    return said, Options(int(first), int(last), bool(track), "station" in dict(said))
+    names = dict(said)
+    return said, Options(int(first), int(last), bool(track), "station" in names, "zones" in names)
 
 
 def differences(said: Lines, found: Lines, is_other: bool) -> Iterator[str]:
@@ -253,7 +332,10 @@ def run_check(args: argparse.Namespace) -> None:
     folder = Path(args.bundle)
     refuse_links(folder)
     said, options = read_sheet(folder)
-    found = made(folder, str(args.program or own_program()), home() / SECOND, options)
+    program = None if args.second_only else str(args.program or own_program())
+    if program is None:
+        said = [(name, told) for name, told in said if name not in FIRST]
+    found = made(folder, program, home() / SECOND, options)
     told = [*strangers(folder, options), *differences(said, found, args.other_program)]
     if args.sha256 not in (None, checksum(folder / SHEET)):
         told.append(f"{SHEET} has the checksum {checksum(folder / SHEET)}")
@@ -262,7 +344,8 @@ def run_check(args: argparse.Namespace) -> None:
         told.append(f"the checkers don't both say yes: {others}")
     if told:
         raise Error("the bundle differs\n" + "\n".join(told))
-    print(f"the bundle is as it says: {now['recheck']} of both checkers; {now['epochs']}")
+    who = "the second checker; the first one wasn't run" if args.second_only else "both checkers"
+    print(f"the bundle is as it says: {now['recheck']} of {who}; {now['epochs']}")
 
 
 def epoch_number(text: str) -> int:
@@ -284,6 +367,7 @@ def arguments(parser: argparse.ArgumentParser) -> None:
     for name in ("obs", "nav", "settings", "log"):
         make.add_argument(name, metavar=name.upper())
     make.add_argument("--station", help="the observation file of the station, if there was one")
+    make.add_argument("--zones", help="a file of zones, of which the program and the log's boxes are asked")
     make.add_argument("--track", action="store_true", help="the log is one of `track`")
     make.add_argument(
         "--from", dest="first", type=epoch_number, default=1, metavar="N", help="the log's first epoch (1)"
@@ -292,7 +376,9 @@ def arguments(parser: argparse.ArgumentParser) -> None:
         "--to", dest="last", type=epoch_number, default=GREATEST, metavar="N", help=f"its last one ({GREATEST})"
     )
     check.add_argument("--sha256", metavar="HEX", help=f"the checksum that {SHEET} has to have")
-    check.add_argument("--other-program", action="store_true", help="let the checkers and versions here be others")
+    asked = check.add_mutually_exclusive_group()
+    asked.add_argument("--other-program", action="store_true", help="let the checkers and versions here be others")
+    asked.add_argument("--second-only", action="store_true", help="run the second checker alone")
 
 
 def run(args: argparse.Namespace) -> int:

@@ -5,6 +5,7 @@ usage: gpslog draw region LOG OUT [--epoch N] [--place X Y Z] [--places FILE] [-
        gpslog draw track LOG OUT [--places FILE] [--beside LOG] [--note TEXT]
        gpslog draw zones LOG OUT --zones ZONES.. [--zone NAME].. [--places FILE] [--note TEXT]
        gpslog draw integrity LOG OUT --places FILE [--limit H V] [--note TEXT]
+       gpslog draw observed LOG OUT (--place X Y Z | --places FILE) [--note TEXT]
 
 `region` draws one epoch (1) from above, east and north, and from the side, east and up, at one
 scale: the kept boxes as they are, inner ones over those at the edge. Those on a face of the search
@@ -32,6 +33,10 @@ far the region's middle is from the known place, and how far its farthest corner
 which is the protection. Below the diagonal the region is misleading. --limit has two alert limits
 in metres along the ground and up.
 
+`observed` draws the part of its declared bound that each satellite used in each epoch at a known
+place (`gpslog observed`), by elevation and as a histogram: 0 is the bound's middle, and 1 and -1 are
+its ends.
+
 FILE has a place on a line, as gpscover.places says. One that shares no time with the log is
 refused.
 
@@ -54,6 +59,7 @@ from gpscover.errors import Error
 from gpscover.geodesy import Frame, Vector
 from gpscover.integrity import Judge, Limits, Numbers, limit_argument
 from gpscover.log import PS_PER_MS, UM_PER_M, Box, Epoch, PathLike, calendar, epochs
+from gpscover.observed import Found, meetings_of, observed, place_words, share
 from gpscover.outline import Flat, convex_hull, outline
 from gpscover.places import Meetings
 from gpscover.region import Extent, Region, region_of, reaches, region_or_none, touched_faces, upward
@@ -634,10 +640,36 @@ def run_integrity(args: argparse.Namespace) -> None:
     draw_integrity(judge, points, args.out, args.note)
 
 
+def draw_observed(found: list[Found], out: str, note: str | None) -> None:
+    """Draws the parts of the bounds by elevation and as a histogram."""
+    rows = [row for epoch in found for row in epoch.rows]
+    parts = [float(row.part) for row in rows]
+    figure, (by_angle, counts) = tools()[0].subplots(
+        1, 2, figsize=(10, 6), sharey=True, gridspec_kw={"width_ratios": (3, 1)}
+    )
+    for axes in (by_angle, counts):
+        axes.axhspan(-1, 1, color=BAND_COLOUR, alpha=0.35, linewidth=0, label="the declared bounds")
+    for passed, colour, label in ((False, EDGE_LINE_COLOUR, "may keep its bound"), (True, PLACE_COLOUR, "passed it")):
+        shown = [(math.degrees(row.angle), part) for row, part in zip(rows, parts) if row.passed == passed]
+        if shown:
+            by_angle.scatter(*zip(*shown), s=8, color=colour, linewidths=0, label=f"{len(shown)}: {label}", zorder=3)
+    by_angle.set(xlabel="elevation, degrees", ylabel="part of the bound that was used", xlim=(0, 90))
+    counts.hist(parts, bins=40, orientation="horizontal", color=EDGE_LINE_COLOUR)
+    counts.set(xlabel="rows")
+    title = f"{len(found)} epochs; with {share(max(it.part for it in found))} of all bounds no more would be passed"
+    figure.suptitle(with_note(title, note), fontsize=10)
+    finish(figure, legend_of(by_angle), out, rect=(0, 0.06, 1, 1))
+
+
+def run_observed(args: argparse.Namespace) -> None:
+    """Draws how much of the bounds was used."""
+    draw_observed(list(observed(args.log, meetings_of(args))), args.out, args.note)
+
+
 def arguments(parser: argparse.ArgumentParser) -> None:
     """The words of the command line."""
     ways = parser.add_subparsers(required=True)
-    region, time, track, fenced, integrity = parsers = [
+    region, time, track, fenced, integrity, bounds = parsers = [
         ways.add_parser(name, help=about)
         for name, about in (
             ("region", "one epoch, from above and from the side"),
@@ -645,12 +677,16 @@ def arguments(parser: argparse.ArgumentParser) -> None:
             ("track", "the regions of a log of track along the way"),
             ("zones", "the regions beside zones"),
             ("integrity", "the error against the protection at known places"),
+            ("observed", "how much of the declared bounds was used at known places"),
         )
     ]
-    for way, work in zip(parsers, (run_region, run_time, run_track, run_zones, run_integrity)):
+    for way, work in zip(parsers, (run_region, run_time, run_track, run_zones, run_integrity, run_observed)):
         way.add_argument("log", metavar="LOG")
         way.add_argument("out", metavar="OUT", type=name_ending(".svg", ".png", told=".svg or .png"))
-        way.add_argument("--places", metavar="FILE", required=way is integrity, help="a list of known places")
+        if way is bounds:
+            place_words(way)
+        else:
+            way.add_argument("--places", metavar="FILE", required=way is integrity, help="a list of known places")
         way.add_argument("--note", metavar="TEXT", help="a further line of the title")
         way.set_defaults(work=work)
     region.add_argument("--epoch", type=int, default=1, metavar="N", help="the epoch's number in the log (1)")

@@ -1,8 +1,10 @@
 """Lists of known places, and the direction of a track.
 
-A file has a place on a line: GPS seconds, or date and time of day as 2008/05/26 05:59:30.000, and x, y, z in metres, as
-the solutions of RTKLIB in the earth-fixed frame have them; what follows isn't read, nor are lines that begin with % or
-#. A place belongs to the epoch within 0.1 s of it. Times are in ps since 1980-01-06 00:00:00 GPS time.
+A file has a place on a line: GPS seconds, or date and time of day as 2008/05/26 05:59:30.000, or week and seconds of the
+week, and x, y, z in metres, as the solutions of RTKLIB in the earth-fixed frame have them; what follows isn't read, nor
+are lines that begin with % or #. Of a receiver that stands x, y, z may be the only line: then it is there at all times.
+A place belongs to the epoch within 0.1 s of it. Places in degrees and RTKLIB's times in UTC are refused. Times are in ps
+since 1980-01-06 00:00:00 GPS time.
 """
 
 from __future__ import annotations
@@ -21,6 +23,11 @@ Place = tuple[int, Vector]  # the time in ps, and x, y, z in m
 NEAR_PS = 100 * PS_PER_MS
 LEAST_WAY_M = 0.5  # two places of a track that are nearer give no direction
 LEAP_MS = (0, 20_000)  # GPS time has been ahead of UTC by so much since 1980
+ALWAYS = -1  # the time of a place that is the only one
+LEAST_M = 10**6  # from the earth's centre; what is nearer are degrees
+WEEK_S = 604_800
+MOST_WEEKS = 10_000
+OTHER_TIMES = ("UTC", "JST")  # that a head of RTKLIB names
 
 
 def place_line(line: str) -> Place:
@@ -30,9 +37,14 @@ def place_line(line: str) -> Place:
         when = datetime.datetime.strptime(f"{words[0]} {words[1]}", "%Y/%m/%d %H:%M:%S.%f")
         ps = (when - GPS_EPOCH) // datetime.timedelta(microseconds=1) * PS_PER_US
         words = words[1:]
+    elif len(words) == 3:
+        ps, words = ALWAYS, ["", *words]
+    elif len(words) > 4 and words[0].isdecimal() and int(words[0]) < MOST_WEEKS:
+        ps = round((int(words[0]) * WEEK_S + measure(words[1])) * 1000) * PS_PER_MS
+        words = words[1:]
     else:
         ps = round(measure(words[0]) * 1000) * PS_PER_MS
-    if not 0 <= ps < LATEST_PS:
+    if not ALWAYS <= ps < LATEST_PS:
         raise ValueError
     x, y, z = (measure(word) for word in words[1:4])
     return ps, (x, y, z)
@@ -43,13 +55,19 @@ def read_places(path: PathLike) -> list[Place]:
     places = []
     with open(path, encoding="utf-8", errors="replace") as file:
         for count, line in enumerate(file, 1):
+            if line[:1] == "%" and line[1:].split()[:1] in ([name] for name in OTHER_TIMES):
+                raise Error(f"{path} line {count}: its times are {line[1:].split()[0]}, and GPS time is wanted")
             if line.strip() and line[0] not in "%#":
                 try:
                     places.append(place_line(line))
                 except (ValueError, IndexError, OverflowError):
                     raise Error(f"{path} line {count}: no time and place") from None
+                if math.hypot(*places[-1][1]) < LEAST_M:
+                    raise Error(f"{path} line {count}: no place on the earth in metres: are these degrees?")
     if not places:
         raise Error(f"{path} has no places")
+    if len(places) > 1 and min(places)[0] == ALWAYS:
+        raise Error(f"{path}: a place without a time isn't the only one")
     return sorted(places)
 
 
@@ -67,7 +85,7 @@ def place_at(places: list[Place], ps: int) -> Vector | None:
     if not places:
         return None
     when, point = nearest(places, ps)
-    return point if abs(when - ps) <= NEAR_PS else None
+    return point if when == ALWAYS or abs(when - ps) <= NEAR_PS else None
 
 
 class Meetings:

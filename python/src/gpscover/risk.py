@@ -61,8 +61,14 @@ ASSUMED = (
 
 def chance_of_more(satellites: int, outliers: int, p: Fraction) -> Fraction:
     """The probability that more than so many satellites break their bounds, if each does with probability p."""
-    counts = range(outliers + 1, satellites + 1)
-    return sum((comb(satellites, k) * p**k * (1 - p) ** (satellites - k) for k in counts), Fraction(0))
+
+    def chance(counts: Iterable[int]) -> Fraction:
+        return sum((comb(satellites, k) * p**k * (1 - p) ** (satellites - k) for k in counts), Fraction(0))
+
+    # Whichever has fewer summands.
+    if 2 * outliers < satellites:
+        return 1 - chance(range(outliers + 1))
+    return chance(range(outliers + 1, satellites + 1))
 
 
 def least_outliers(satellites: int, p: Fraction, risk: Fraction) -> int:

@@ -13,8 +13,9 @@ each was closed, in whole numbers; a finer paving can name a satellite that a co
 with those of each satellite in turn opened to 1 km. Where no position fits as they are, the faulty
 satellite is among those whose opening leaves a region, if one alone is faulty. Where the settings
 have a table [galileo], its offset is opened to 1 km in a run of its own, which opens all satellites
-of Galileo by as much. Only epochs that are empty with the bounds as they are get a line. The files
-of these runs stand in FOLDER, or in a folder that is removed at the end.
+of Galileo by as much. For epochs in which none of these leaves a region each two satellites are
+opened together, a run for each pair. Only epochs that are empty with the bounds as they are get a
+line. The files of these runs stand in FOLDER, or in a folder that is removed at the end.
 
 With a station, which `log` is told by --station and `open` by its file, the bounds are those of
 differences: a fault is the receiver's or the station's, and which of the two isn't told.
@@ -33,7 +34,8 @@ import math
 import re
 import subprocess
 import tempfile
-from collections.abc import Iterator
+from collections.abc import Iterable, Iterator
+from itertools import combinations
 from pathlib import Path
 
 from gpscover.command import Command, read_text
@@ -126,15 +128,28 @@ class Runs:
         self.folder = Path(folder)
         self.options = [] if station is None else ["--station", str(station)]
 
-    def solve(self, name: str, settings: str) -> list[Epoch]:
-        """The epochs that the program finds with these settings."""
+    def solve(self, name: str, settings: str, some: Iterable[int] = ()) -> list[Epoch]:
+        """The epochs that the program finds with these settings: those from the first to the last of some numbers, or
+        all."""
         toml, log = self.folder / f"{name}.toml", self.folder / f"{name}.log"
         toml.write_text(settings, encoding="utf-8")
         words = [self.program, "solve", self.obs, self.nav, str(toml), str(log), *self.options]
+        if numbers := sorted(some):
+            words += ["--from", str(numbers[0]), "--to", str(numbers[-1])]
         ran = subprocess.run(words, stdout=subprocess.DEVNULL, stderr=subprocess.PIPE, text=True)
         if ran.returncode:
             raise Error(f"{' '.join(words)} ended with {ran.returncode}: {ran.stderr.strip()}")
         return list(epochs(log))
+
+
+def helpful(runs: Runs, opened: dict[str, str], wanted: Iterable[int]) -> dict[int, list[str]]:
+    """The names of the settings by which some epochs have a region."""
+    helps: dict[int, list[str]] = {index: [] for index in wanted}
+    for name, text in opened.items():
+        for epoch in runs.solve(name, text, helps):
+            if epoch.index in helps and epoch.kept:
+                helps[epoch.index].append(name)
+    return helps
 
 
 def opened_lines(runs: Runs, settings: str) -> Iterator[str]:
@@ -147,14 +162,16 @@ def opened_lines(runs: Runs, settings: str) -> Iterator[str]:
     opened: dict[str, str | None] = {satellite: with_opened(closed, satellite) for satellite in satellites}
     if any(satellite[0] == "E" for satellite in satellites):
         opened["offset"] = with_open_offset(closed)
-    helps: dict[int, list[str]] = {index: [] for index in empty}
-    for name, text in opened.items():
-        for epoch in runs.solve(name, text) if text else ():
-            if epoch.index in helps and epoch.kept:
-                helps[epoch.index].append(name)
+    helps = helpful(runs, {name: text for name, text in opened.items() if text}, empty)
+    hard = [index for index in empty if not helps[index]]
+    names = sorted({row.satellite for index in hard for row in empty[index].rows})
+    pairs = {f"{one}+{two}": with_opened(with_opened(closed, one), two) for one, two in combinations(names, 2)}
+    helps |= helpful(runs, pairs, hard)
     for index, epoch in empty.items():
-        names = " ".join(helps[index]) or "none: more than one satellite broke its bounds, or the receiver was outside"
-        yield f"epoch {index} {calendar(epoch.ps)} empty; a region is left when opening {names}"
+        told = (
+            " ".join(helps[index]) or "none: more than two satellites broke their bounds, or the receiver was outside"
+        )
+        yield f"epoch {index} {calendar(epoch.ps)} empty; a region is left when opening {told}"
     end = f"; a fault is one{AT_EITHER}" if runs.options and empty else ""
     yield f"epochs {len(given)}, of which {len(empty)} are empty at outliers = 0{end}"
 
