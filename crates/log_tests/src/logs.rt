@@ -4,10 +4,12 @@ ghost use Rattle.sat_model.specs.Fold.{first_boxes};
 ghost use Rattle.sat_model.specs.Logs.{IsNumbered};
 ghost use Rattle.paving_log.specs.Values.{log_value};
 
+use crate::bounds::{SHOWN, bounded_log};
 use crate::renewed::{LEFT, ROWS, kept_text, log_with};
+use bound_lines::{BoundHead, bound_line, sum_line};
 use grid_model::{Box3, NoMemory, Pos};
 use log_lines::{done_line, epoch_line, head_lines, renew_line, root_line, sat_line, step_line};
-use paving_log::{Body, Log, LogEpoch, LogError, Renewal, cover_boxes, read_log, read_rows};
+use paving_log::{Body, Bound, Log, LogEpoch, LogError, Renewal, cover_boxes, read_log, read_rows};
 use paving_log_check::{Verdict, judge, judged_folds};
 use sat_model::{SatEntry, Step};
 use std::alloc::{AllocError, Global};
@@ -72,7 +74,7 @@ const EDGE: &str = "edge 0 -1400000 1400000";
 
 /// Texts in place of one in the log, and where its first fault is then, by line and kind; or twice
 /// 0.
-const CHANGES: [(&str, &str, u32, u8); 57] = [
+const CHANGES: [(&str, &str, u32, u8); 58] = [
     ("done 0", "done 0", 0, 0),
     (EDGE, "out 0\nin 0 0 -1 1\nsplit 400000 2", 0, 0),
     ("sat G01", "skip G01 6 20\nsat G01", 0, 0),
@@ -80,7 +82,8 @@ const CHANGES: [(&str, &str, u32, u8); 57] = [
     ("sat G01", "skip G01 9\nsat G01", 0, 0),
     ("gpscover 1", "gpscover 3", 0, 0),
     ("gpscover 1", "gpscover 2", 0, 0),
-    ("gpscover 1", "gpscover 4", 1, 1),
+    ("gpscover 1", "gpscover 4", 0, 0),
+    ("gpscover 1", "gpscover 5", 1, 1),
     ("gpscover 1", "gpscover 03", 1, 1),
     ("gpscover 1", "gpscover 3 ", 1, 1),
     ("gpscover 1", "gpscover 1 3", 1, 1),
@@ -172,6 +175,9 @@ fn each_changed_text_of_rows_is_refused_at_its_first_fault(rt: HostRuntime) -> R
             5,
             5,
         ),
+        ("gpscover 1", "gpscover 2", 1, 1),
+        ("gpscover 1", "gpscover 3", 0, 0),
+        ("gpscover 1", "gpscover 4", 1, 1),
         ("root", "cut 0 0 5\nroot", 8, 2),
         (root, "root 0 0 0 0 0 0\ncut 0 0 5\n", 9, 2),
         (root, "root 0 0 0 0 0 0\nsplit 0 0\n", 9, 2),
@@ -267,7 +273,28 @@ fn put_body(text: &mut String, body: &Body) -> Result<(), AllocError> {
         text.push_str(&step_line(&step))?;
     }
     put_renewals(text, body, body.steps.len())?;
-    text.push_str(&done_line(body.done))
+    text.push_str(&done_line(body.done))?;
+    for bound in &body.bounds {
+        put_bound(text, bound)?;
+    }
+    Ok(())
+}
+
+/// The lines of a bound.
+fn put_bound(text: &mut String, bound: &Bound) -> Result<(), AllocError> {
+    let sums = bound.sums.len();
+    if sums == 0 || 64 < sums {
+        return Ok(());
+    }
+    let head = BoundHead {
+        half: bound.half,
+        sums: sums as u8,
+    };
+    text.push_str(&bound_line(&head))?;
+    for sum in &bound.sums {
+        text.push_str(&sum_line(sum))?;
+    }
+    Ok(())
 }
 
 /// The lines of the renewals behind so many steps.
@@ -320,7 +347,8 @@ fn a_log_that_was_read_is_written_as_it_was(rt: HostRuntime) -> Result<(), Fail>
         "few 2 1388102401000000000000 1\nskip G02 1\nskip G03 6 20\nepoch 3 1388102402000000000000 0\nroot 0 0 0 1 1 1\ncut 0 3 0\nsplit 0 2\nout 1\nin 2 -3 -4 5\ndone 1\n",
     )?;
     let renewed = log_with(rt.alloc(), "gpscover 2\n", LEFT, ROWS)?;
-    for text in [text.as_str(), renewed.as_str()] {
+    let bounded = bounded_log(rt.alloc(), "gpscover 4\n", [SHOWN, SHOWN])?;
+    for text in [text.as_str(), renewed.as_str(), bounded.as_str()] {
         if text.len() > 4_000_000_000 {
             return Ok(());
         }
@@ -369,6 +397,7 @@ fn cover(alloc: Global, root: Box3, steps: &[Step]) -> Result<Vec<Box3>, NoMemor
             steps,
             renewals: Vec::new(alloc),
             done: 0,
+            bounds: Vec::new(alloc),
         }),
     };
     cover_boxes(alloc, &epoch)

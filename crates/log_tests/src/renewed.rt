@@ -51,7 +51,7 @@ pub fn kept_text(alloc: Global, text: &str) -> Result<Rc<Vec<u8>>, AllocError>
 }
 
 /// The verdict on the text, or the line and kind where it is no log.
-fn found(alloc: Global, text: &str) -> Result<Result<Verdict, (u32, u8)>, Fail> {
+pub fn found(alloc: Global, text: &str) -> Result<Result<Verdict, (u32, u8)>, Fail> {
     if text.len() > 4_000_000_000 {
         return Err(Fail::from("too long"));
     }
@@ -62,7 +62,7 @@ fn found(alloc: Global, text: &str) -> Result<Result<Verdict, (u32, u8)>, Fail> 
     }
 }
 
-fn no(number: u8, line: u32) -> Verdict {
+pub fn no(number: u8, line: u32) -> Verdict {
     Verdict::No(Fault {
         number,
         line,
