@@ -58,6 +58,7 @@ fn judged(
             steps,
             renewals: Vec::new(alloc),
             done,
+            bounds: Vec::new(alloc),
         }),
     })?;
     let log = Log {
