@@ -4,25 +4,29 @@
 usage: python3 -m tools.station_tables extents OBS NAV SETTINGS X Y Z [--station FILE] [--splits N ...] [--outliers Q ...]
        python3 -m tools.station_tables faults OBS NAV SETTINGS X Y Z [--station FILE] [--metres M ...] [--every N]
        python3 -m tools.station_tables stands OBS NAV SETTINGS X Y Z [--station FILE] [--at N ...]
-       python3 -m tools.station_tables parts OBS NAV SETTINGS X Y Z [--station FILE] [--halvings N]
+       python3 -m tools.station_tables parts OBS NAV SETTINGS X Y Z [--station FILE] [--again N] [--halvings N]
        python3 -m tools.station_tables places OBS NAV SETTINGS PLACES [--station FILE]
        each with [--from N] [--to N] [--program GPSCOVER]
 
-A receiver whose settings have a table [station] needs the station's FILE. X Y Z is the receiver's place in m, --from and --to
-are numbers of its epochs.
+A receiver whose settings have a table [station] needs the station's FILE. X Y Z is the receiver's place in m, --from and
+--to are numbers of its epochs.
 
-extents: for each number of splits and of outliers the mean extents along east, north and up in m, in how many epochs the place
-is in a kept box, how many regions reach the search box, and what `check` says.
+extents: for each number of splits and of outliers the mean extents along east, north and up in m, in how many epochs the
+place is in a kept box, how many regions reach the search box, and what `check` says.
 faults: each satellite of each N-th epoch in turn gets so many metres more and less, by 64 splits. In how many of these no
-position fits at q = 0, in how many `suspect` names this satellite at q = 1, in how many another, and in how many the place is held.
-stands: `track` at a speed of 0 and q = 0. Behind each of these epochs the extents, those of what the rows up to there allow
-together, and the sides of the box that is handed on; then in how many epochs the place is held, and what `retrack` says.
-parts: the same track, and then the box that the last epoch hands on is halved along each axis, N times. Each part is the search box
-of a track of its own over the same epochs, and is left out from where it is lost. A receiver that stands was in one of the parts
-that are left; a line has the extents of their regions behind the last epoch, by the splits of SETTINGS, and whether they hold the place.
+position fits at q = 0, in how many `suspect` names this satellite at q = 1, in how many another, and in how many the
+place is held.
+stands: `track` at a speed of 0 and q = 0. Behind each of these epochs the extents, those of what the rows up to there
+allow together, and the sides of the box that is handed on; then in how many epochs the place is held, and what `retrack`
+says.
+parts: the same track. --again so many times the box that the last epoch hands on is the search box of the same epochs.
+Then it is halved along each axis, N times. Each part is the search box of a track of its own over the same epochs, and is
+left out where that is lost. A receiver that stands was in one of the parts that are left; a line has the extents of their
+regions behind the last epoch, by the splits of SETTINGS, and whether they hold the place.
 places: in how many epochs the place of a list, as `gpslog` reads it, is in a kept box.
 
-Numbers are floats, and prove nothing. Exit status: 0; 1 where a run fails or a log isn't accepted; 2 for a wrong command line.
+Numbers are floats, and prove nothing. Exit status: 0; 1 where a run fails or a log isn't accepted; 2 for a wrong command
+line.
 """
 import argparse
 import itertools
@@ -144,7 +148,7 @@ def column_of(head: str, code: str) -> int:
 def with_faults(
     case: Case, metres: float, room: Path, every: int
 ) -> Iterator[tuple[list[Epoch], list[Epoch], list[str]]]:
-    """For each satellite of an epoch in turn: the epochs at q = 0 and at q = 1, and which satellite of each has the fault."""
+    """For each satellite of an epoch in turn: the epochs at q = 0 and at q = 1, and whose code of each is changed."""
     head, blocks = parts_of(case.obs.read_text(encoding="ascii"))
     blocks, column = blocks[::every], column_of(head, case.settings.signal.codes[0])
     changed = replace(case, obs=room / "changed.obs")
@@ -160,7 +164,7 @@ def with_faults(
 
 def faults(case: Case, args: argparse.Namespace, room: Path) -> Iterator[str]:
     """A line for each amount of the fault."""
-    yield "| fault, m | faults | seen at q = 0 | named at q = 1 | another named | place held at q = 1 |\n|---|---|---|---|---|---|"
+    yield "| fault, m | faults | seen at q = 0 | named at q = 1 | another named | held at q = 1 |\n|---|---|---|---|---|---|"
     for metres in args.metres:
         tried = [it for sign in (metres, -metres) for it in with_faults(case, sign, room, args.every)]
         none, one, names = ([it for part in side for it in part] for side in zip(*tried))
@@ -273,9 +277,9 @@ def hull_sides(epoch: Epoch) -> list[int]:
 # ---- a receiver that stands, from several search boxes
 
 
-def cover_of(epoch: Epoch) -> MmBox:
-    """A box of whole mm round the kept boxes."""
-    hull = hull_of(epoch.boxes)
+def cover_of(boxes: list[Box]) -> MmBox:
+    """A box of whole mm round some boxes."""
+    hull = hull_of(boxes)
     return [(low // UM_PER_MM, -(-high // UM_PER_MM)) for low, high in zip(hull.low, hull.high)]
 
 
@@ -298,7 +302,10 @@ def parts(case: Case, args: argparse.Namespace, room: Path) -> Iterator[str]:
     """A line for each halving."""
     still = standing(case)
     found, _ = still.found(room, "track")
-    boxes, left = found[-1].boxes, [cover_of(found[-1])]
+    boxes = found[-1].boxes
+    for _ in range(args.again):
+        boxes = tracked_in(still, cover_of(boxes), room)
+    left = [cover_of(boxes)]
     frame, origin = Frame.at(args.place), [round(axis * UM_PER_M) for axis in args.place]
     yield "| search boxes | of which are left | region | holds the place |\n|---|---|---|---|"
     for level in range(args.halvings + 1):
@@ -336,6 +343,7 @@ def arguments() -> argparse.Namespace:
     ways.choices["faults"].add_argument("--metres", type=measure, nargs="+", default=[3, 5, 8, 10, 15, 20, 40, 80])
     ways.choices["faults"].add_argument("--every", type=int, default=12)
     ways.choices["stands"].add_argument("--at", type=int, nargs="+", default=[1, 10, 50, 100])
+    ways.choices["parts"].add_argument("--again", type=int, default=0)
     ways.choices["parts"].add_argument("--halvings", type=int, default=2)
     return parser.parse_args()
 

@@ -3,16 +3,17 @@
 
 usage: python3 -m tools.made.made_pairs FOLDER [--km D ...] [--epochs N]
 
-FOLDER gets receiver.obs, receiver.nav and alone.toml, and for each distance of D km (1, 10, 50) to the east station_D.obs and
-settings_D.toml; the receiver's place is printed. The satellites are those of examples/receiver.nav from 10 degrees up. Each is up
-to 1 m off along each axis and its clock up to 1 m, the same for both. The noise of each code is up to 0.5 m. The troposphere is
-2.4 m overhead at both; the ionosphere 4 m overhead at the receiver, and 10 mm less for each km of the way to the station. Both are
-mapped by the elevation where the code is received. The station's clock is 0.2 ms ahead.
+FOLDER gets receiver.obs, receiver.nav and alone.toml, and for each distance of D km (1, 10, 50) to the east station_D.obs
+and settings_D.toml; the receiver's place is printed. The satellites are those of examples/receiver.nav from 10 degrees
+up. Each is up to 1 m off along each axis and its clock up to 1 m, the same for both. The noise of each code is up to 0.5
+m. The troposphere is 2.4 m overhead at both; the ionosphere 4 m overhead at the receiver, and 10 mm less for each km of
+the way to the station. Both are mapped by the elevation where the code is received. The station's clock is 0.2 ms ahead.
 
-What settings declare follows from this alone. With a station: `receiver` twice the noise; `orbit_clock` the satellite's error
-times the distance over 20,000 km; `vertical` the 10 mm for each km. The two verticals aren't parallel, so a satellite isn't as high at
-both: `zenith` and `vertical` have room for what that makes of the delays. One receiver alone has [-500, 500] for its noise,
-[-3000, 3000] for orbit and clock, [1950, 2650] for the troposphere and [0, 7000] for the ionosphere overhead.
+What settings declare follows from this alone. With a station: `receiver` twice the noise; `orbit_clock` the satellite's
+error times the distance over 20,000 km; `vertical` the 10 mm for each km. The two verticals aren't parallel, so a
+satellite isn't as high at both: `zenith` and `vertical` have room for what that makes of the delays. One receiver alone
+has [-500, 500] for its noise, [-3000, 3000] for orbit and clock, [1950, 2650] for the troposphere and [0, 7000] for the
+ionosphere overhead.
 
 Exit status: 0; 1 where a file can't be written; 2 for a wrong command line.
 """
