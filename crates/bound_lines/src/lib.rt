@@ -2,7 +2,7 @@
 //! that show it.
 //!
 //! A line is read as a value exactly where it is the value's one spelling. All numbers are within 64
-//! bits. No log has such lines yet.
+//! bits.
 #![tactic(auto)]
 
 mod bound_head;
