@@ -189,20 +189,19 @@ class TestBounds:
         # The satellites stand still here, so each part has the table of the whole.
         assert texts == [self.SETTINGS[: self.SETTINGS.index("[bounds]")] + whole] * 2
 
-    def test_settings_that_do_not_end_with_the_bounds_are_refused(self):
-        other = self.SETTINGS.replace("[satellite]", "[signal.more]")
-        with written(none="[search]\n", other=other, dual=self.SETTINGS.replace("single", "dual")) as (
-            none,
-            other,
-            dual,
-        ):
-            for path, words in (
-                (none, "aren't the last ones"),
-                (other, "aren't the last ones"),
-                (dual, "of the mode single"),
-            ):
+    def test_settings_without_bounds_or_of_another_mode_are_refused(self):
+        with written(none="[search]\n", dual=self.SETTINGS.replace("single", "dual")) as (none, dual):
+            for path, words in ((none, "no table .bounds."), (dual, "of the mode single")):
                 with pytest.raises(Error, match=words):
-                    bounds.up_to_bounds(path, "single")
+                    bounds.without_bounds(path, "single")
+
+    def test_tables_behind_the_bounds_stay(self):
+        head, galileo = self.SETTINGS[: self.SETTINGS.index("[bounds]")], "[galileo]\noffset = [0, 1]\n"
+        for text in (self.SETTINGS + galileo, self.SETTINGS.replace("[satellite]", f"{galileo}[satellite]")):
+            with written(log=HEAD + self.LATER.format(sats=FIVE), settings=text) as (log, settings):
+                said = ended_with(bounds, log, 6378137, 0, 0, "single", "--settings", settings)[1]
+                whole = ended_with(bounds, log, 6378137, 0, 0, "single")[1]
+            assert said == head + galileo + whole
 
     def test_options_of_stretches_go_together(self):
         rest = ["--settings", "s", "--files", "o", "n", "--folder", "x"]

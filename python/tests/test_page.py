@@ -426,6 +426,41 @@ class TestInTheBrowser:
             == True
         )
 
+    def test_the_table_is_sorted_by_a_column_and_back(self):
+        self.open("receiver")
+        shown = "[...document.querySelectorAll('#table tbody tr')].map((it) => Number(it.cells[5].textContent))"
+        lengths = self.run_js(shown)
+        assert len(set(lengths)) > 1
+        for order in (sorted(lengths, reverse=True), sorted(lengths)):
+            self.run_js("document.querySelector('#table th[data-column=\"east\"] button').click()")
+            assert self.run_js(shown) == order
+        assert self.run_js("document.querySelector('#table th[aria-sort]').dataset.column") == "east"
+
+    def test_known_places_are_in_the_table(self):
+        made(RECEIVER, f"{self.room}/placed.html", "--places", RECEIVER.with_suffix(".places"), "--limit", 50, 100)
+        self.open("placed")
+        assert "which holds it in 8" in self.run_js("document.getElementById('lines').textContent")
+        assert (
+            self.run_js("[...document.querySelectorAll('#table tbody tr')].map((it) => it.cells[15].textContent)")
+            == ["yes"] * 8
+        )
+
+    def test_the_arrow_keys_go_on_behind_a_jump(self):
+        self.open("receiver")
+        number = self.epochs("receiver")[3].index
+        self.run_js(
+            f"(document.getElementById('number').value = '{number}', document.getElementById('go').requestSubmit())"
+        )
+        key = "new KeyboardEvent('keydown', { key: 'ArrowDown', bubbles: true })"
+        self.run_js(f"document.activeElement.dispatchEvent({key})")
+        following = self.epochs("receiver")[4].index
+        assert self.run_js("document.querySelector('#table tr.chosen button').textContent") == str(following)
+
+    def test_no_folder_is_named(self):
+        made(RECEIVER, f"{self.room}/named.html", "--settings", EXAMPLES / "settings.toml")
+        text = Path(self.room, "named.html").read_text(encoding="utf-8")
+        assert str(RECEIVER.parent) not in text and str(EXAMPLES) not in text
+
     def test_what_is_thinned_out_is_said(self):
         with mock.patch.object(page, "PAGE_LIMIT", os.path.getsize(f"{self.room}/receiver.html") - 20_000):
             said = made(RECEIVER, f"{self.room}/thin.html")

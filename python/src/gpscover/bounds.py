@@ -30,10 +30,11 @@ search box and at each epoch's time. With --vertical, in single mode, so is the 
 `vertical`. With both a satellite's own bound is what noise adds alone. Each number is an option,
 and is the engineer's own declaration: the region holds the receiver only while they hold.
 
-A satellite rises and sets, so one table for a long file declares much for each. With --every there
-is one for each stretch of so many seconds: FOLDER gets part01.toml and so on, which are SETTINGS up
-to [bounds] with the tables of a stretch behind, and the lines are printed that solve the epochs of
-each part and check them.
+With --settings all of SETTINGS are printed, with the new tables in place of their own, wherever these
+stand. A satellite rises and sets, so one table for a long file declares much for each. With --every
+there is one for each stretch of so many seconds: FOLDER gets part01.toml and so on, which are SETTINGS
+with the tables of a stretch, and the lines are printed that solve the epochs of each part and check
+them.
 
 With --station, LOG is what `gpscover solve --station` writes by SETTINGS, which have the station's
 place, and X Y Z is a known place of the receiver. What is printed is how large the differences of
@@ -289,25 +290,23 @@ def tables(seen: dict[str, Pair], parts: Parts) -> list[str]:
     return [*common_lines(parts), "", *satellite_lines(seen, parts)]
 
 
-def up_to_bounds(path: PathLike, mode: str) -> str:
-    """The settings up to [bounds].
+def without_bounds(path: PathLike, mode: str) -> str:
+    """The settings without the tables [bounds] and [satellite], wherever these stand.
 
-    Error where another table comes behind, or they are of another mode.
+    Error where there is no [bounds], or they are of another mode.
     """
     text = read_text(path)
-    head, mark, rest = (
-        re.split(r"(?m)^([ \t]*\[bounds\].*)$", text, maxsplit=1) if "[bounds]" in text else (text, "", "")
-    )
-    if not mark or set(re.findall(r"(?m)^[ \t]*\[(.*?)\]", rest)) - {"satellite"}:
-        raise Error(f"{path}: the tables [bounds] and [satellite] aren't the last ones")
-    if not re.search(rf'(?m)^[ \t]*mode[ \t]*=[ \t]*["\']{mode}["\']', head):
+    if not re.search(r"(?m)^[ \t]*\[bounds\]", text):
+        raise Error(f"{path} has no table [bounds]")
+    if not re.search(rf'(?m)^[ \t]*mode[ \t]*=[ \t]*["\']{mode}["\']', text):
         raise Error(f"{path} isn't of the mode {mode}")
-    return head
+    left = re.sub(r"(?ms)^[ \t]*\[(bounds|satellite)\].*?(?=^[ \t]*\[|\Z)", "", text)
+    return left if left.endswith("\n") else f"{left}\n"
 
 
 def write_parts(found: list[Stretch], parts: Parts, args: argparse.Namespace) -> Iterator[str]:
     """Writes the settings of each stretch, and gives the lines that solve and check it."""
-    folder, head = Path(args.folder), up_to_bounds(args.settings, args.mode)
+    folder, head = Path(args.folder), without_bounds(args.settings, args.mode)
     folder.mkdir(parents=True, exist_ok=True)
     digits = max(2, len(str(len(found))))
     for count, stretch in enumerate(found, 1):
@@ -354,7 +353,7 @@ def arguments(parser: argparse.ArgumentParser) -> None:
         help=("in single mode: print the ionosphere's delay at the vertical, which gpscover maps" " itself"),
     )
     parser.add_argument("--every", type=measure, metavar="SECONDS", help="a table for each stretch of so many seconds")
-    parser.add_argument("--settings", metavar="SETTINGS", help="with --every: the settings that get these tables")
+    parser.add_argument("--settings", metavar="SETTINGS", help="print all of these settings, with the new tables")
     parser.add_argument("--files", nargs=2, metavar=("OBS", "NAV"), help="with --every: the files that are solved")
     parser.add_argument("--folder", help="with --every: where the settings and logs of the parts stand")
     parser.add_argument("--program", default="./gpscover", help="with --every: the program (./gpscover)")
@@ -365,8 +364,8 @@ def arguments(parser: argparse.ArgumentParser) -> None:
 def parts_of(args: argparse.Namespace) -> Parts:
     """What the words declare. UsageError where they don't go together."""
     parts = Parts(**{field.name: getattr(args, field.name) for field in fields(Parts)})
-    together = [args.every, args.settings, args.files, args.folder]
-    if any(part is None for part in together) and together != [None] * 4:
+    together = [args.every, args.files, args.folder]
+    if any(part is None for part in together) and together != [None] * 3 or args.every and not args.settings:
         raise UsageError("--every, --settings, --files and --folder go together")
     if args.every is not None and not args.every >= 0.001:
         raise UsageError("a stretch has at least 0.001 seconds")
@@ -390,8 +389,11 @@ def run(args: argparse.Namespace) -> int:
         print(*differences.tables(args.log, place, args.station, args.more), sep="\n")
         return 0
     found = stretches(args.log, place, args.every)
-    whole = args.every is None
-    print(*(tables(found[0].seen, parts) if whole else write_parts(found, parts, args)), sep="\n")
+    if args.every is not None:
+        print(*write_parts(found, parts, args), sep="\n")
+        return 0
+    print(end=without_bounds(args.settings, args.mode) if args.settings else "")
+    print(*tables(found[0].seen, parts), sep="\n")
     return 0
 
 

@@ -1,12 +1,16 @@
 """Makes one HTML file of a log of gpscover, to look at in any browser without a network.
 
-usage: gpslog page LOG [LOG ..] OUT.html [--settings FILE] [--from N] [--to N] [--title TEXT]
+usage: gpslog page LOG [LOG ..] OUT.html [--settings FILE] [--places FILE [--limit H V]] [--from N]
+[--to N] [--title TEXT]
 
 The page has a table and a time line of all epochs with the numbers of `gpslog summary`; of an epoch
 that is chosen its boxes in three dimensions, the outline of all its boxes from three sides, the sky
 with its satellites, the declared errors and the satellites that aren't used with the reason; a map
 sheet with the outline of each region in latitude and longitude; and the settings, if they are
-given. Several logs are the parts of one file in their order.
+given. A click on a head of the table sorts it. With a list of known places the table has of each epoch
+whether its region holds the place, and the farthest corner from it along the ground, and up or down, as
+`gpslog summary --places` has them. Several logs are the parts of one file in their order. Of files the
+page has the names, and not where they stand.
 
 The page is kept below 30 MB. Table and time line have every epoch. Where the rest is too much,
 boxes, and then sky, outlines and errors, are those of every 2nd, 4th, 8th .. epoch: page and
@@ -38,12 +42,14 @@ from pathlib import Path
 from typing import Any
 
 from gpscover.command import Command, absent, name_ending, whole_file
-from gpscover.errors import Error, LogError
+from gpscover.errors import Error, LogError, UsageError
 from gpscover.geodesy import Vector, azimuth, elevation
+from gpscover.integrity import Judge, Limits, limit_argument
 from gpscover.kml import ground_ring
 from gpscover.log import UM_PER_M, Box, Epoch, PathLike, Rules, epochs, rules_of
 from gpscover.outline import Flat, offsets_of, outer_corners, outline_of
-from gpscover.region import Region, hull_of, region_or_none
+from gpscover.places import Meetings
+from gpscover.region import Region, hull_of, region_or_none, upward
 from gpscover.summary import COLUMNS, Totals, csv_line, mark_of, text_cells
 
 PARTS = Path(__file__).resolve().parent / "page_parts"
@@ -68,6 +74,7 @@ CELLS = (  # the columns of text_cells, by name and title
     ("mark", "mark"),
     ("faces", "faces"),
 )
+PLACE_CELLS = (("held", "held"), ("hpl", "hpl m"), ("vpl", "vpl m"))  # with known places
 MARK_WORDS = {
     "": "",
     "few": "Too few usable satellites, so the epoch isn't paved.",
@@ -209,8 +216,9 @@ def detail(epoch: Epoch, region: Region | None, mark: str) -> str:
 class Collected:
     """What is taken from the logs for the page, in as many bytes as are left for it."""
 
-    def __init__(self, room: int) -> None:
-        self.room = room
+    def __init__(self, room: int, judge: Judge | None = None) -> None:
+        self.room, self.judge = room, judge
+        self.cells = CELLS + (PLACE_CELLS if judge else ())
         self.rows: list[list[str]] = []
         self.size = 0
         self.details, self.boxes = Thinned(), Thinned()
@@ -224,7 +232,10 @@ class Collected:
         cells = text_cells(epoch, region)
         position = len(self.rows)
         self.rows.append(
-            cells + [""] * (len(CELLS) - 2 - len(cells)) + [mark, " ".join(region.faces) if region else ""]
+            cells
+            + [""] * (len(CELLS) - 2 - len(cells))
+            + [mark, " ".join(region.faces) if region else ""]
+            + self.known(epoch, region)
         )
         self.size += len(to_json(self.rows[-1]))
         if self.details.wants(position):
@@ -232,6 +243,15 @@ class Collected:
         if region and self.details.wants(position) and self.boxes.wants(position):
             self.boxes.add(position, packed_boxes(epoch, region))
         self.thin()
+
+    def known(self, epoch: Epoch, region: Region | None) -> list[str]:
+        """What is said of the epoch's known place."""
+        if self.judge is None:
+            return []
+        found = self.judge.add(epoch, region)
+        if found is None:
+            return [""] * len(PLACE_CELLS)
+        return ["yes" if found.held else "no", f"{upward(found.hpl):.1f}", f"{upward(found.vpl):.1f}"]
 
     def thin(self) -> None:
         """Thins out what is larger, until all fits; no boxes are kept of an epoch whose detail isn't."""
@@ -261,10 +281,12 @@ class Collected:
             )
 
 
-def collect(paths: Sequence[PathLike], first: float, last: float, room: int) -> tuple[Collected, str | None]:
+def collect(
+    paths: Sequence[PathLike], first: float, last: float, room: int, judge: Judge | None = None
+) -> tuple[Collected, str | None]:
     """What the logs have of the epochs from a number to another, and the line for a log that ends
     too early, or None."""
-    collected = Collected(room)
+    collected = Collected(room, judge)
     try:
         for path in paths:
             for epoch in epochs(path):
@@ -292,20 +314,22 @@ def page_data(
     """What the page's script needs, but for details and boxes."""
     warnings = [f"{broken}; the page has the epochs before"] if broken else []
     warnings += settings_differ(settings, rules) if settings else []
+    judge = collected.judge
+    said = [*collected.totals.warnings(), *(judge.warnings() if judge else ())]
     return {
-        "logs": args.log,
+        "logs": [Path(name).name for name in args.log],
         "rules": {"q": rules.outliers, "splits": rules.splits, "width": metres(rules.width)},
-        "lines": [collected.totals.line(), *(f"warning: {each}" for each in collected.totals.warnings())],
+        "lines": [collected.totals.line(), *(judge.lines() if judge else ()), *(f"warning: {each}" for each in said)],
         "warnings": warnings,
         "notes": list(collected.notes()),
         "every": {"details": collected.details.every, "boxes": collected.boxes.every},
         "range": [number for number in (args.first, args.last) if number is not None],
-        "columns": [[name, title] for name, title in CELLS],
-        "table": dict(zip((name for name, _ in CELLS), map(list, zip(*collected.rows))))
-        or {name: [] for name, _ in CELLS},
+        "columns": [[name, title] for name, title in collected.cells],
+        "table": dict(zip((name for name, _ in collected.cells), map(list, zip(*collected.rows))))
+        or {name: [] for name, _ in collected.cells},
         "marks": MARK_WORDS,
         "settings": settings,
-        "settingsName": args.settings,
+        "settingsName": Path(args.settings).name if args.settings else None,
     }
 
 
@@ -341,7 +365,12 @@ def make_page(args: argparse.Namespace) -> str | None:
     rules = rules_of(args.log[0])
     settings = Path(args.settings).read_text(encoding="utf-8", errors="replace") if args.settings else None
     room = PAGE_LIMIT - sum(len(part.encode()) for part in parts.values())
-    collected, broken = collect(args.log, args.first or 0, args.last or math.inf, room)
+    judge = None
+    if args.places:
+        judge = Judge(Meetings.of(args.places), limits=Limits(*args.limit) if args.limit else None)
+    collected, broken = collect(args.log, args.first or 0, args.last or math.inf, room, judge)
+    if judge:
+        judge.meetings.refuse_strangers()
     data = page_data(args, collected, rules, settings, broken)
     data["figures"] = json.loads((PARTS / "figures.json").read_text(encoding="utf-8"))
     title = args.title or f"Regions of {', '.join(Path(name).name for name in args.log)}"
@@ -365,6 +394,8 @@ def arguments(parser: argparse.ArgumentParser) -> None:
     parser.add_argument("log", metavar="LOG", nargs="+", help="a log, or the logs of a file's parts in their order")
     parser.add_argument("out", metavar="OUT.html", type=name_ending(".html", ".htm", told=".html"))
     parser.add_argument("--settings", metavar="FILE", help="the settings of the run, to be shown")
+    parser.add_argument("--places", metavar="FILE", help="a list of known places")
+    limit_argument(parser)
     parser.add_argument("--from", type=number, dest="first", metavar="N", help="the first epoch that is taken")
     parser.add_argument("--to", type=number, dest="last", metavar="N", help="the last epoch that is taken")
     parser.add_argument("--title", metavar="TEXT")
@@ -372,6 +403,8 @@ def arguments(parser: argparse.ArgumentParser) -> None:
 
 def run(args: argparse.Namespace) -> int:
     """Writes the page. The status."""
+    if args.limit and not args.places:
+        raise UsageError("--limit needs --places")
     broken = make_page(args)
     if broken:
         raise Error(f"{broken}; the page has the epochs before")

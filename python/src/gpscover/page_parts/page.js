@@ -14,7 +14,7 @@ const TRIANGLES = [[0, 2, 3], [0, 3, 1], [4, 5, 7], [4, 7, 6], [0, 1, 5], [0, 5,
   [1, 3, 7], [1, 7, 5]];
 const SIDES = [[0, 1], [2, 3], [4, 5], [6, 7], [0, 2], [1, 3], [4, 6], [5, 7], [0, 4], [1, 5], [2, 6], [3, 7]];
 
-const chosen = { position: -1, rows: [], first: 0 };
+const chosen = { position: -1, rows: [], first: 0, by: "epoch", down: false };
 const element = (id) => document.getElementById(id);
 const copy = (value) => JSON.parse(JSON.stringify(value));
 const counted = (number, word) => `${number.toLocaleString("en")} ${word}${number === 1 ? "" : "es"}`;
@@ -114,7 +114,43 @@ function drawTime() {
 
 // ---- the table of epochs
 
-const isWord = (name) => ["time", "mark", "faces"].includes(name);
+const isWord = (name) => ["time", "mark", "faces", "held"].includes(name);
+
+// The rows in the order of a column: those without a value come last, whatever the direction.
+function inOrder(positions) {
+  const { by, down } = chosen;
+  const value = (k) => (isWord(by) ? table[by][k] : numberAt(by, k));
+  const none = (it) => it === null || it === "";
+  return [...positions].sort((a, b) => {
+    const [x, y] = [value(a), value(b)];
+    if (none(x) || none(y)) return none(x) - none(y) || a - b;
+    return (x < y ? -1 : x > y ? 1 : 0) * (down ? -1 : 1) || a - b;
+  });
+}
+
+// Sorts by a column: the greatest first, and the other way round when it is chosen again.
+function sortBy(name) {
+  chosen.down = chosen.by === name ? !chosen.down : name !== "epoch" && name !== "time";
+  chosen.by = name;
+  drawSortedHead();
+  filterRows();
+  turnTo(0);
+  document.querySelector(`#table th[data-column="${name}"] button`).focus();
+}
+
+function drawSortedHead() {
+  element("table").tHead.rows[0].replaceChildren(...data.columns.map(([name, title]) => {
+    const cell = make("th", undefined, isWord(name) ? "word" : "");
+    const button = make("button", title);
+    button.type = "button";
+    button.addEventListener("click", () => sortBy(name));
+    cell.scope = "col";
+    cell.dataset.column = name;
+    if (name === chosen.by) cell.setAttribute("aria-sort", chosen.down ? "descending" : "ascending");
+    cell.append(button);
+    return cell;
+  }));
+}
 
 function drawHead(id, columns) {
   element(id).tHead.rows[0].replaceChildren(...columns.map(([name, title]) => {
@@ -177,6 +213,7 @@ function drawFilter() {
   const marks = [...new Set(table.mark)].filter((mark) => mark !== "").sort();
   const options = [["all", "all epochs"], ["region", "those with a region"]];
   marks.forEach((mark) => options.push([mark, `those marked ${mark}`]));
+  if (table.held && table.held.includes("no")) options.push(["lost place", "those that don't hold the known place"]);
   element("filter").replaceChildren(...options.map(([value, text]) => {
     const option = make("option", text);
     option.value = value;
@@ -186,8 +223,10 @@ function drawFilter() {
 
 function filterRows() {
   const wanted = element("filter").value;
-  const keeps = { all: () => true, region: (k) => table.edge[k] !== "" }[wanted] ?? ((k) => table.mark[k] === wanted);
-  chosen.rows = allPositions().filter(keeps);
+  const kinds = {
+    all: () => true, region: (k) => table.edge[k] !== "", "lost place": (k) => table.held[k] === "no",
+  };
+  chosen.rows = inOrder(allPositions().filter(kinds[wanted] ?? ((k) => table.mark[k] === wanted)));
   turnTo(Math.max(0, chosen.rows.indexOf(chosen.position)));
 }
 
@@ -483,8 +522,11 @@ function choose(position) {
 // Chooses an epoch by its number, or says that there is none.
 function chooseNumber(text) {
   const position = table.epoch.indexOf(text.trim());
-  if (position >= 0) choose(position);
-  else element("gone").textContent = `The page has no epoch ${text.trim()}.`;
+  if (position >= 0) {
+    choose(position);
+    // The arrow keys go on from here.
+    document.querySelector("#table tr.chosen button")?.focus({ preventScroll: true });
+  } else element("gone").textContent = `The page has no epoch ${text.trim()}.`;
 }
 
 function listenToEpoch() {
@@ -526,7 +568,7 @@ function drawTexts() {
 
 function start() {
   drawTexts();
-  drawHead("table", data.columns);
+  drawSortedHead();
   drawFilter();
   listenToTable();
   listenToEpoch();
