@@ -250,6 +250,11 @@ class TestBundles(Room):
         assert self.check(folder)[0] == 1
         assert self.check(folder, "--other-program")[0] == 0
 
+    def test_evidence_of_the_form_before_names_what_can_check_it(self):
+        folder = self.copy()
+        edited("evidence.txt", "gpscover evidence 2", "gpscover evidence 1")(folder)
+        assert "check it by the one that its line `version` names" in self.check(folder)[1]
+
     def test_what_is_no_evidence_is_refused(self):
         for old, new in (("gpscover evidence 2", "gpscover evidence 3"), ("--to 1", "--to 0"), ("options ", "option ")):
             folder = self.copy()

@@ -69,6 +69,7 @@ FILES = {"obs": "receiver.obs", "nav": "receiver.nav", "settings": "settings.tom
 STATION = {"station": "station.obs"}  # where there is one
 ZONES = {"zones": "receiver.zones", "answers": "receiver.answers"}  # where there are some
 HEAD = "gpscover evidence 2"
+FORMER_HEAD = "gpscover evidence 1"
 ITSELF = ("program", "second", "version", "release")  # the lines that say who checked
 FIRST = ("program", "version", "release", "check", "retrack", "guard")  # those of the program
 GREATEST = 200_000  # the greatest epoch number
@@ -294,6 +295,8 @@ def read_sheet(folder: Path) -> tuple[Lines, Options]:
     lines = (folder / SHEET).read_text(encoding="utf-8", errors="replace").splitlines()
     parts = (line.partition(" ") for line in lines[1:])
     said = [(name, told) for name, _, told in parts]
+    if lines[:1] == [FORMER_HEAD]:
+        raise Error(f"{folder / SHEET} is of a gpscover before this one: check it by the one that its line `version` names")
     found = OPTIONS.fullmatch(dict(said).get("options", ""))
     if lines[:1] != [HEAD] or not found or max(map(int, found.groups()[1:])) > GREATEST:
         raise Error(f"{folder / SHEET}: this isn't evidence of gpscover, or it was changed")
