@@ -24,6 +24,7 @@ test_name number =
     else if nat_eq number 63 then codes "NotClosed"
     else if nat_eq number 64 then codes "CountDiffers"
     else if nat_eq number 65 then codes "BadRenew"
+    else if nat_eq number 66 then codes "BoundNotShown"
     else []
 
 -- a line of a log is the first that fails a test, of which this is the least number

@@ -60,6 +60,7 @@ pub fn name_of_test(number: u8) -> &'static str
         63 => "NotClosed",
         64 => "CountDiffers",
         65 => "BadRenew",
+        66 => "BoundNotShown",
         _ => "",
     }
 }
