@@ -7,6 +7,7 @@ import sys
 from collections.abc import Sequence
 
 from gpscover import (
+    bounded,
     bounds,
     evidence,
     export,
@@ -24,7 +25,22 @@ from gpscover import (
 from gpscover.command import Command, run_tool
 from gpscover.errors import UsageError
 
-MODULES = (summary, pictures, page, export, frames, known, suspects, bounds, risk, shapes, zones, evidence, files)
+MODULES = (
+    summary,
+    pictures,
+    page,
+    export,
+    frames,
+    known,
+    suspects,
+    bounds,
+    bounded,
+    risk,
+    shapes,
+    zones,
+    evidence,
+    files,
+)
 COMMANDS = {module.COMMAND.name: module.COMMAND for module in MODULES}
 ABOUT = "Reads, draws and judges the logs of gpscover. `gpslog COMMAND --help` tells of each."
 
