@@ -68,6 +68,7 @@ CELLS = (  # the columns of text_cells, by name and title
     ("mark", "mark"),
     ("faces", "faces"),
 )
+CERTIFIED = ("certified", "certified")  # a column where an epoch has lengths by certified bounds
 MARK_WORDS = {
     "": "",
     "few": "Too few usable satellites, so the epoch isn't paved.",
@@ -213,6 +214,7 @@ class Collected:
         self.room = room
         self.rows: list[list[str]] = []
         self.size = 0
+        self.certified: list[str] = []  # of each epoch 1 or an empty text
         self.details, self.boxes = Thinned(), Thinned()
         self.totals = Totals()
 
@@ -226,7 +228,8 @@ class Collected:
         self.rows.append(
             cells + [""] * (len(CELLS) - 2 - len(cells)) + [mark, " ".join(region.faces) if region else ""]
         )
-        self.size += len(to_json(self.rows[-1]))
+        self.certified.append("1" if region and region.certified else "")
+        self.size += len(to_json([*self.rows[-1], self.certified[-1]]))
         if self.details.wants(position):
             self.details.add(position, detail(epoch, region, mark))
         if region and self.details.wants(position) and self.boxes.wants(position):
@@ -292,6 +295,9 @@ def page_data(
     """What the page's script needs, but for details and boxes."""
     warnings = [f"{broken}; the page has the epochs before"] if broken else []
     warnings += settings_differ(settings, rules) if settings else []
+    cells, rows = list(CELLS), collected.rows
+    if any(collected.certified):
+        cells, rows = [*cells, CERTIFIED], [[*row, word] for row, word in zip(rows, collected.certified)]
     return {
         "logs": args.log,
         "rules": {"q": rules.outliers, "splits": rules.splits, "width": metres(rules.width)},
@@ -300,9 +306,8 @@ def page_data(
         "notes": list(collected.notes()),
         "every": {"details": collected.details.every, "boxes": collected.boxes.every},
         "range": [number for number in (args.first, args.last) if number is not None],
-        "columns": [[name, title] for name, title in CELLS],
-        "table": dict(zip((name for name, _ in CELLS), map(list, zip(*collected.rows))))
-        or {name: [] for name, _ in CELLS},
+        "columns": [[name, title] for name, title in cells],
+        "table": {name: [row[k] for row in rows] for k, (name, _) in enumerate(cells)},
         "marks": MARK_WORDS,
         "settings": settings,
         "settingsName": args.settings,

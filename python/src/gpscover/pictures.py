@@ -7,7 +7,8 @@ usage: gpslog draw region LOG OUT [--epoch N] [--place X Y Z] [--places FILE] [-
        gpslog draw integrity LOG OUT --places FILE [--limit H V] [--note TEXT]
 
 `region` draws one epoch (1) from above, east and north, and from the side, east and up, at one
-scale: the kept boxes as they are, inner ones over those at the edge. Those on a face of the search
+scale: the kept boxes as they are, inner ones over those at the edge, and over them the outline of
+what certified bounds leave. Those on a face of the search
 box, where the region may go on outside, have a colour of their own. A place in metres in the earth-
 fixed frame, or that of the epoch in a list of places, is a cross and the origin; without one the
 origin is the middle of the kept boxes. The title has the splits of the epoch.
@@ -51,12 +52,13 @@ from typing import Any, TypeVar
 
 from gpscover.command import Command, absent, measure, name_ending, work_of
 from gpscover.errors import Error
-from gpscover.geodesy import Frame, Vector
-from gpscover.integrity import Judge, Limits, Numbers, limit_argument
+from gpscover.geodesy import Frame, Vector, dot
+from gpscover.integrity import Judge, Limits, Numbers, in_um, limit_argument
 from gpscover.log import PS_PER_MS, UM_PER_M, Box, Epoch, PathLike, calendar, epochs
 from gpscover.outline import Flat, convex_hull, outline
 from gpscover.places import Meetings
-from gpscover.region import Extent, Region, region_of, reaches, region_or_none, touched_faces, upward
+from gpscover.region import Extent, Region, extent_along, half_sides, offsets, reaches, region_of, region_or_none
+from gpscover.region import touched_faces, upward
 from gpscover.shapes import corners
 from gpscover.zones import Corners, Reach, Zone, read_zones
 
@@ -174,9 +176,19 @@ def draw_boxes(axes: Any, epoch: Epoch, region: Region, pair: tuple[str, str], d
             axes.add_collection(collections.PolyCollection(polygons, facecolors=colour, label=label, **style))
 
 
-def limits_of(region: Region, name: str, with_place: bool) -> Extent:
-    """What a direction shows: the extents with a margin, and the origin where it is a place."""
-    low, high = region.extents[NAMES.index(name)]
+def draw_certified(axes: Any, region: Region, pair: tuple[str, str]) -> None:
+    """Draws the outline of what the bounds of an epoch leave in the plane of two directions."""
+    first, second = (region.axes[NAMES.index(name)] for name in pair)
+    ring = convex_hull((dot(first, corner), dot(second, corner)) for corner in region.corners)
+    style = {"facecolor": "none", "edgecolor": EDGE_LINE_COLOUR, "linewidth": 1.4}
+    axes.fill(*zip(*ring), label="certified bounds", **style)
+
+
+def limits_of(epoch: Epoch, region: Region, name: str, with_place: bool) -> Extent:
+    """What a direction shows: the boxes and the extents with a margin, and the origin where it is a place."""
+    axis, origin = region.axes[NAMES.index(name)], in_um(region.origin)
+    boxes = extent_along(axis, offsets(epoch.boxes, origin), [half_sides(box) for box in epoch.boxes])
+    low, high = (end(pair) for end, pair in zip((min, max), zip(boxes, region.extents[NAMES.index(name)])))
     if with_place:
         low, high = min(low, 0.0), max(high, 0.0)
     margin = 0.05 * (high - low)
@@ -189,10 +201,11 @@ def region_title(epoch: Epoch, region: Region) -> str:
     A third where the box cuts it.
     """
     east, north, up = (upward(width) for width in region.widths())
+    certified = " by certified bounds" if region.certified else ""
     cut = f"\nreaches the search box at {' '.join(region.faces)}: it may go on outside" if region.faces else ""
     return (
         f"epoch {epoch.index}, {calendar(epoch.ps)} GPS time, {epoch.satellites} satellites, q = {epoch.outliers},"
-        f" {epoch.splits:,} splits\neast {east:.1f} m, north {north:.1f} m, up {up:.1f} m{cut}"
+        f" {epoch.splits:,} splits\neast {east:.1f} m, north {north:.1f} m, up {up:.1f} m{certified}{cut}"
     )
 
 
@@ -212,11 +225,13 @@ def panels_at_one_scale(pyplot: Any, shown: dict[str, Extent]) -> tuple[Any, lis
 def draw_region(epoch: Epoch, place: Vector | None, out: str, note: str | None) -> None:
     """Draws the region of one epoch from above and from the side."""
     region = region_of(epoch, place)
-    shown = {name: limits_of(region, name, place is not None) for name in NAMES}
+    shown = {name: limits_of(epoch, region, name, place is not None) for name in NAMES}
     figure, both = panels_at_one_scale(tools()[0], shown)
     origin = "the cross" if place is not None else "the middle"
     for axes, pair in zip(both, DIRECTIONS):
         draw_boxes(axes, epoch, region, pair, out.endswith(".svg") and len(epoch.kept) > MANY_BOXES)
+        if region.certified:
+            draw_certified(axes, region, pair)
         if place is not None:
             axes.plot([0], [0], "+", color=PLACE_COLOUR, markersize=12, markeredgewidth=1.8, label="known place")
         axes.set(xlim=shown["east"], ylim=shown[pair[1]])
@@ -613,7 +628,9 @@ def draw_integrity(judge: Judge, points: list[Judged], out: str, note: str | Non
     for k, (axes, name) in enumerate(zip(panels, ("along the ground", "up or down"))):
         draw_diagram(axes, points, k, limits[k])
         axes.set(xlabel=f"error of the region's middle {name}, m", ylabel=f"protection {name}, m")
-    title = "\n".join([judge.held_line(), *judge.limit_lines(), "of declared bounds, not of a probability"])
+    certified = f"; by certified bounds in {judge.certified} regions" if judge.certified else ""
+    last = f"of declared bounds, not of a probability{certified}"
+    title = "\n".join([judge.held_line(), *judge.limit_lines(), last])
     figure.suptitle(with_note(title, note), fontsize=10)
     finish(figure, legend_of(panels[0]), out, rect=(0, 0.07, 1, 1))
 
