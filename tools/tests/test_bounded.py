@@ -1,11 +1,12 @@
 """Certified bounds that are found: the second checker accepts them."""
+import math
 import random
 
 import pytest
 
 from gpscover import bound_search, bounded, region, row_sums
 from gpscover.log import Box, epochs
-from tools.bound_cases import any_box, any_row
+from tools.bound_cases import Region, any_box, any_row, form, made_rows
 from tools.forged_logs import BOX, CUTS_LEAVE, DATA, put, renewal, text, with_renewals
 from tools.tests.logs import TOP
 from tools.tests.test_forged_bounds import second
@@ -77,6 +78,19 @@ class TestFound:
         for q, bounds in enumerate(found):
             assert all(row_sums.is_shown(forms, hull, q, bound) for bound in bounds)
             assert not any(row_sums.is_shown(forms, hull, q + 1, bound) for bound in bounds)
+
+    def test_they_end_where_the_linear_rows_and_the_box_do(self):
+        # the box is far smaller than what the rows allow, about as large, and larger
+        draw = random.Random(66)
+        for number, half in enumerate((10**6, 20 * 10**6, 200 * 10**6) * 2):
+            receiver = [6 * 10**12, draw.randint(-(10**11), 10**11), 2 * 10**12]
+            rows, q = made_rows(draw, 6, receiver), number % 2
+            box = Box(*(at - half for at in receiver), *(at + half for at in receiver))
+            allowed = Region([form(row, box) for row in rows], box, q)
+            for way in (10**6, 0, 0), (-300000, 400000, -500000):
+                (found,) = bound_search.bounds_over(rows, box, q, [way])
+                exact = allowed.furthest(way)[0] + row_sums.dot(way, row_sums.middle_of(box))
+                assert -1 < (found.most - exact) / math.hypot(*way) < 20_000  # um
 
     def test_rows_of_any_size_end(self):
         draw = random.Random(66)
