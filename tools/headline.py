@@ -123,7 +123,7 @@ LINKS = (
         (
             ("crates/paving_log_check/specs/FileCover.antt", "FileCover"),
             ("crates/paving_log_check/specs/FileCover.antt", "BlocksFitCover"),
-            ("crates/paving_log_check/specs/FileCover.antt", "FitBodyCover"),
+            ("crates/paving_log_check/specs/FileCover.antt", "FitBodyCover", "FitBounded"),
         ),
     ),
     (
@@ -136,12 +136,14 @@ LINKS = (
         ),
     ),
     (
-        "Lies in a logged inner or edge box and its clock span",
-        "",
+        "Lies in a logged inner or edge box and its clock span, and within every logged bound",
+        "The bounds of a block are those of its body, which the log states behind its steps.",
         (
             ("crates/sat_model/specs/Cover.antt", "SomeKeeps"),
             ("crates/sat_model/specs/Cover.antt", "Keeps"),
             ("crates/sat_model/specs/Cover.antt", "KeepsClock"),
+            ("crates/paving_log_check/specs/FileCover.antt", "AreFitBounds"),
+            ("crates/sat_model/specs/HalfSpaces.antt", "along", "IsInHalfSpace"),
         ),
     ),
     (

@@ -76,8 +76,9 @@ class TestDocuments:
         for chain in (
             "runs Runs Obeys checking TellsAlone Tells",
             "Obeys RunOf Ends",
-            "checking SaysAccepted Accepts IsFileAccepted IsAccepted FileCover BlocksFitCover FitBodyCover FitCover",
+            "checking SaysAccepted Accepts IsFileAccepted IsAccepted FileCover BlocksFitCover FitBodyCover FitBounded FitCover",
             "FitCover SomeKeeps Keeps KeepsClock",
+            "FitBounded AreFitBounds IsInHalfSpace along",
             "FitCover AllFitInside FitsInside",
             "RunOf Found",
             "ReadsObs Named ReadsFile FileGives GivesWithin Gives",

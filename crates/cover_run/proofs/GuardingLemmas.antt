@@ -137,7 +137,7 @@ module _ (FitsAt : Pos → ℤ → Type 0) (root : GridBox) where
       → AreFindings ws (cover_of body) found → AreTrueOf FitsAt root ws found
   epoch_true delays rules renewed block None passes cover ws found paved are = absurd cc
   epoch_true delays rules renewed block (Some body) passes cover ws found paved are =
-      true_of (pieces root (steps_in body.events)) cover ws found (subst (λ (box : GridBox). AreFindings ws (kept_parts (pieces box (steps_in body.events))) found) passes.0 are)
+      true_of (pieces root (steps_in body.events)) cover.epoch ws found (subst (λ (box : GridBox). AreFindings ws (kept_parts (pieces box (steps_in body.events))) found) passes.0 are)
 
   block_true : (delays : Delays) (rules : Rules) (renewed : List (List Row)) (block : Block)
       → BodyPassesAt delays rules root renewed block block.body

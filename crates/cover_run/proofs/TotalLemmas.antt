@@ -66,7 +66,7 @@ counted_all : (p : Step → Bool) (splits : (id axis : ℕ) → p (Split id axis
     ≡ count_by p (steps_in body.events)
 counted_all p splits rules block body passes =
     counted p splits (first_rows block body) rules body.done 0
-    (first_stage (test_in rules block) body.root) body.events passes
+    (first_stage (test_in rules block) body.root) body.events passes.events
 
 pub count_is : (k : Kind) (rules : Rules) (block : Block) (body : Body)
     → BodyPassesBy AnyLine rules block body

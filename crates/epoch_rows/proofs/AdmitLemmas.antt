@@ -161,9 +161,12 @@ module _ (m : Meaning) (sound : IsSound m) (renews : Bool) (rules : Rules) where
           let renewed = subst (λ (theirs : Option Body). IsOwnOf m search (renewals_of theirs) own) is are in
           let rows = rows_at own.lines are.lines body r in (
             r.same_root,
-            all_meet (HoldsGiven m.delays own.renewed) (first_rows block body) rules body.done (first_stage (test_in rules block) body.root) body.events
-                (λ j new i row at there. given_held m search sound has.box (usable_of search.epoch.sats.items own.lines) (renewals_in body.events) own.renewed renewed.renewed j new i row at
-                (each_at _ (renewals_in body.events) j new rows at i row there)) pass,
+            record {
+              events = all_meet (HoldsGiven m.delays own.renewed) (first_rows block body) rules body.done (first_stage (test_in rules block) body.root) body.events
+                  (λ j new i row at there. given_held m search sound has.box (usable_of search.epoch.sats.items own.lines) (renewals_in body.events) own.renewed renewed.renewed j new i row at
+                  (each_at _ (renewals_in body.events) j new rows at i row there)) pass.events;
+              bounds = pass.bounds;
+            },
           )
 
       -- a renewal has a row for each that counts

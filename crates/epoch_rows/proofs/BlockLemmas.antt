@@ -32,8 +32,8 @@ header_fits index n ps tag same counted from under few = record { index = counte
 -- ---- roots
 
 pub bare_fits : (body : Body) (root : Box3) → body ≡ bare_body (grid_box root)
-    → CornersFit (corners_of body.root) × ((body.events ≡ []) × (body.done ≡ 0))
-bare_fits body root is = rw is (box3_fits root, (refl, refl))
+    → CornersFit (corners_of body.root) × ((body.events ≡ []) × (body.done ≡ 0) × (body.bounds ≡ []))
+bare_fits body root is = rw is (box3_fits root, (refl, refl, refl))
 
 -- ---- satellite lines
 

@@ -2,7 +2,7 @@
 use Rattle.std.proofs.Common.{◌≡◌, Bool, true, false, List, [], ◌∷◌, refl, sym, ap, subst, ◌∙◌, Option, None, Some}
 use Rattle.std.specs.Prelude.{ℤ, is_none}
 use Rattle.subpaving.proofs.FoldingLemmas.{steps_fold}
-use Rattle.log_writer.specs.Kept as paved
+use Rattle.log_writer.specs.Kept.{hull_kept}
 use Rattle.log_writer.specs.Pavings.{BodyExtends, HasRun}
 use Rattle.moving_tube.specs.Hulls.{hull_with, hull_behind, hull_of, HullLies}
 use Rattle.moving_tube.specs.Roots.{kept_with, kept_of}
@@ -17,6 +17,7 @@ use Rattle.sat_model.specs.BoxTests.{test_in}
 use Rattle.sat_model.specs.Cover.{is_kept}
 use Rattle.sat_model.specs.Events.{steps_in}
 use Rattle.sat_model.specs.Fold.{ShownStep, pieces}
+use Rattle.sat_model.specs.KeptHulls as paved
 use Rattle.sat_model.specs.Logs.{Body, Block, is_few, rows_of, first_rows}
 use Rattle.sat_model.specs.Renewals.{AnyLine}
 use Rattle.sat_model.specs.Stages.{first_stage}
@@ -49,18 +50,18 @@ same_behind hull (piece ∷ more) =
         ∙ later (hull_with hull piece.part))
     by_kind false later e = rw e (later hull)
 
-pub hull_told : (body : Option Body) → paved.hull_kept body ≡ hull_of (cover_of body)
+pub hull_told : (body : Option Body) → hull_kept body ≡ hull_of (cover_of body)
 hull_told None = refl
 hull_told (Some body) = same_behind None (pieces body.root (steps_in body.events))
 
 told_with : (root : GridBox) (body : Option Body)
-    → kept_with root body ≡ kept_told (is_none body) root (paved.hull_kept body)
+    → kept_with root body ≡ kept_told (is_none body) root (hull_kept body)
 told_with root None = refl
 told_with root (Some body) = sym (hull_told (Some body))
 
 -- what is told of a block is what it keeps
 pub told_kept : (root : GridBox) (block : Block)
-    → kept_of root block ≡ kept_told (is_few block) root (paved.hull_kept block.body)
+    → kept_of root block ≡ kept_told (is_few block) root (hull_kept block.body)
 told_kept root block = told_with root block.body
 
 -- so a walk that goes on from the one does from the other
@@ -95,7 +96,7 @@ module _ (maker : Maker) (rules : Rules) (block : Block) (suits : Suits maker (r
 
   pub told_lies : (root : GridBox) (given : Option Body) → LiesIn root root → HasRoot root given
       → BodyExtends (HasRun maker rules) block given block.body
-      → HullLies (kept_told (is_few block) root (paved.hull_kept block.body)) root
+      → HullLies (kept_told (is_few block) root (hull_kept block.body)) root
   told_lies root given own has is =
       subst (λ (o : Option GridBox). HullLies o root) (told_kept root block)
       (kept_lies root root own block (extends_folds given block.body is) (same_root root given block.body has is))

@@ -94,7 +94,7 @@ module _ (maker other : Maker) (goes : GoesAs maker other) (rules : Rules) where
   unfolding paved_as
   paves_as given block paves =
       extends_as (HasRun maker rules) (HasRun other rules) given block
-      (λ body h. record { shown = h.shown; run = paved_as _ body.root h.shown h.run; events = h.events; done = h.done }) paves
+      (λ body h. record { shown = h.shown; run = paved_as _ body.root h.shown h.run; events = h.events; done = h.done; bounds = h.bounds }) paves
 
   pub begins_as : (given block : Block) → Begins maker rules given block
       → Begins other rules given block

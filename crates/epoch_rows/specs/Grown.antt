@@ -61,7 +61,7 @@ skips_of (Skipped sat skip ∷ lines) = entry.Skipped sat skip ∷ skips_of line
 
 -- a root that isn't paved yet
 abbrev pub bare_body : GridBox → Body
-bare_body root = record { root = root; events = []; done = 0 }
+bare_body root = record { root = root; events = []; done = 0; bounds = [] }
 
 -- A block without a body has the skip lines alone. Else it has all lines, whose rows are wider by W
 -- at both ends, those of the ends of the error by G, and the root.

@@ -41,6 +41,7 @@ fn body_over(alloc: Global, root: &Box3) -> Body
         steps: LoggedSteps::new(),
         renewals: Vec::new(alloc),
         done: 0,
+        bounds: Vec::new(alloc),
     }
 }
 

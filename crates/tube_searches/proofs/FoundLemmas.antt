@@ -90,7 +90,7 @@ module _ (m : Meaning) (q : ℕ) where
       → FitBodyCover (FitsEpoch m q s.root s.epoch) s.root body
       → StayFits body (FitsEpoch m q s.root s.epoch) stay → IsKeptWith s.root body stay
   kept_here s None stay cover fits = tt
-  kept_here s (Some body) stay cover fits = λ inside. cover.covers stay.at stay.offset inside fits
+  kept_here s (Some body) stay cover fits = λ inside. cover.epoch.covers stay.at stay.offset inside fits
 
   pub are_kept : (searches : List Search) (blocks : List Block) (path : List Stay)
       → BlocksFitCover m q searches blocks → PathFits m q searches blocks path

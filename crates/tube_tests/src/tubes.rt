@@ -105,6 +105,7 @@ fn kept(alloc: Global, root: Box3, steps: &[Step]) -> Result<Option<Box3>, NoMem
             steps,
             renewals: Vec::new(alloc),
             done: 0,
+            bounds: Vec::new(alloc),
         }),
     };
     cover_hull(alloc, &epoch)

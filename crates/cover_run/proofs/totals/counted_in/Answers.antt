@@ -1,4 +1,4 @@
-use Rattle.std.proofs.Common.{Some, ap, arith, count_by, List}
+use Rattle.std.proofs.Common.{ap, arith, count_by, List}
 use Rattle.std.proofs.lemmas.List.Sums.{count_by-le-length}
 use Rattle.step_lines.specs.Steps.{steps_of}
 use Rattle.paving_log.proofs.EventLemmas.{lines_of_events, steps_in_events, steps_le_lines}
@@ -20,7 +20,7 @@ returns-in-Some-clause-value c rules h =
       arith,
       c.counted_steps.ensures,
       same,
-      count_is c.args.kind rules (record epoch { body = Some (body_value body) }) (body_value body) passes,
+      count_is c.args.kind rules epoch (body_value body) passes,
     ))
 
 pub returns-in-Some-clause-bound : goal.returns-in-Some-clause-bound
