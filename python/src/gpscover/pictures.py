@@ -93,6 +93,11 @@ def tools() -> tuple[Any, Any]:
     return pyplot, collections
 
 
+def by_bounds(count: int) -> str:
+    """What a title says of so many regions with the lengths of certified bounds."""
+    return f"; by certified bounds in {count} regions" if count else ""
+
+
 def with_note(title: str, note: str | None, before: str = "\n") -> str:
     """A title and the user's further line."""
     return title + (f"{before}{note}" if note else "")
@@ -281,6 +286,7 @@ class Course:
         self.known: list[Vector] = []
         self.cut: list[bool] = []  # whether the region reaches the search box
         self.empty: list[bool] = []  # whether no position fits
+        self.certified = 0  # how many regions have the extents of bounds
 
     def origin_for(self, epoch: Epoch, place: Vector | None) -> Vector | None:
         """Where the axes of an epoch stand."""
@@ -297,6 +303,7 @@ class Course:
         region = region_of(epoch, origin) if origin is not None else None
         self.times.append(epoch.ps / 1e12)
         self.extents.append(region.extents if region is not None else (NOWHERE, NOWHERE, NOWHERE))
+        self.certified += region is not None and region.certified
         self.cut.append(reaches(epoch))
         self.empty.append(epoch.empty)
         known = (math.nan, math.nan, math.nan)
@@ -306,7 +313,8 @@ class Course:
 
     def title(self) -> str:
         """How many epochs there are, and how many have a colour of their own."""
-        return f"{len(self.times)} epochs; {sum(self.cut)} reach the search box, {sum(self.empty)} are empty"
+        counts = f"{len(self.times)} epochs; {sum(self.cut)} reach the search box, {sum(self.empty)} are empty"
+        return counts + by_bounds(self.certified)
 
 
 def edges_of(times: list[float]) -> list[Extent]:
@@ -384,6 +392,7 @@ class Tube:
         self.known: list[Flat] = []
         # The number of a lost epoch, and the outline of its search box.
         self.lost: tuple[int, list[Flat]] | None = None
+        self.certified = 0  # how many regions have the lengths of bounds
 
     def add(self, epoch: Epoch) -> None:
         """Adds an epoch; one without a region has no outline."""
@@ -393,6 +402,7 @@ class Tube:
             self.frame = Frame.at(region.middle())
         self.times.append(epoch.ps / 1e12)
         self.widths.append(region.widths() if region is not None else [math.nan] * 3)
+        self.certified += region is not None and region.certified
         if self.frame is not None:
             self.add_shapes(self.frame, epoch, place)
 
@@ -412,7 +422,7 @@ class Tube:
     def title(self) -> str:
         """How many epochs there are, and where it ends."""
         lost = f"; lost at epoch {self.lost[0]}" if self.lost else ""
-        return f"{len(self.times)} epochs, {len(self.rings)} with a region{lost}"
+        return f"{len(self.times)} epochs, {len(self.rings)} with a region{lost}{by_bounds(self.certified)}"
 
 
 def tube_of(path: PathLike, meetings: Meetings) -> Tube:
@@ -628,8 +638,7 @@ def draw_integrity(judge: Judge, points: list[Judged], out: str, note: str | Non
     for k, (axes, name) in enumerate(zip(panels, ("along the ground", "up or down"))):
         draw_diagram(axes, points, k, limits[k])
         axes.set(xlabel=f"error of the region's middle {name}, m", ylabel=f"protection {name}, m")
-    certified = f"; by certified bounds in {judge.certified} regions" if judge.certified else ""
-    last = f"of declared bounds, not of a probability{certified}"
+    last = f"of declared bounds, not of a probability{by_bounds(judge.certified)}"
     title = "\n".join([judge.held_line(), *judge.limit_lines(), last])
     figure.suptitle(with_note(title, note), fontsize=10)
     finish(figure, legend_of(panels[0]), out, rect=(0, 0.07, 1, 1))
