@@ -3,12 +3,12 @@
 
 usage: python3 -m tools.certified_table LOG [LOG ...] [--directions 4|8|16] [--every N]
 
-A row of the table is of a log in which no rows are renewed. It has q and the splits, by how much on average the kept boxes reach
-further along east, north and up than what the rows allow exactly, in percent and in metres, and how much further the bounds go
-that `gpslog bounded` finds: on average and at worst over all directions, in mm. Then how many of the bounds were found, the
-bytes that an epoch takes without bounds and those of its bounds, and the processor time that they take an epoch. Of every
-N-th epoch (1). The exact region is that of tools/exact_extents.py along the directions of the bounds, with each row as wide as
-the span of its satellite's place makes it, which is left out there: some 0.1 m.
+A row of the table is of a log in which no rows are renewed. It has q and the splits, by how much on average the kept
+boxes reach further along east, north and up than what the rows allow exactly, in percent and in metres, and how much
+further the bounds go that `gpslog bounded` finds: on average and at worst over all directions, in mm. Then how many of
+the bounds were found, the bytes that an epoch takes without bounds and those of its bounds, and the processor time that
+they take an epoch. Of every N-th epoch (1). The exact region is that of tools/exact_extents.py along the directions of
+the bounds, with each row as wide as the span of its satellite's place makes it, which is left out there: some 0.1 m.
 
 Exit status: 0; 1 where a file can't be read, or LOG is no whole log; 2 for a wrong command line.
 """

@@ -237,10 +237,11 @@ class Judge:
     def warnings(self) -> Iterator[str]:
         """What must not be passed over."""
         if self.lost:
+            box = "box within every bound" if self.certified else "box"
             where = f", in {self.outside_box} of these since it is outside the search box" if self.outside_box else ""
             yield (
                 f"in {len(self.lost)} of {self.regions} regions the known place isn't in a kept"
-                f" box{' within every bound' if self.certified else ''}{where}; the first is epoch {self.lost[0]}: more satellites than allowed"
+                f" {box}{where}; the first is epoch {self.lost[0]}: more satellites than allowed"
                 " broke their bounds there, or the place is wrong"
             )
         if self.placeless:

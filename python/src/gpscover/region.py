@@ -25,7 +25,8 @@ FACES = ("-x", "-y", "-z", "+x", "+y", "+z")
 class Region(Frame):
     """Where the kept boxes of an epoch lie, and what its certified bounds leave.
 
-    `extents` are (low, high) along east, north, up from `origin`: of the bounds where `certified` is true, else of the boxes.
+    `extents` are (low, high) along east, north, up from `origin`: of the bounds where `certified` says so, else of the
+    boxes.
     """
 
     extents: tuple[Extent, Extent, Extent]
