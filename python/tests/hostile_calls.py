@@ -17,7 +17,7 @@ from pathlib import Path
 
 from made_logs import EXAMPLES, HEAD, PAVED, RECORDED, TUBE, WITHIN, ended
 
-from gpscover import bounds, evidence, export, files, known, observed, pictures, risk, shapes, summary
+from gpscover import bounded, bounds, evidence, export, files, known, observed, pictures, risk, shapes, summary
 from gpscover import suspects, zones
 from gpscover.settings import Settings, SettingsError
 
@@ -25,9 +25,21 @@ WORDS = ("nan", "inf", "-1", "1e400", "9" * 5000, "", "x", "\u0661", "\0".replac
 ZONES = "gpszones 2\nzone a 0 0 0 1 1 1\nprism b 1\nside 0 1 0 0\nreach c 1 0 0\n"
 KML = "<kml><LineString><coordinates>138,35 138.01,35</coordinates></LineString></kml>"
 JSON = '{"type": "Polygon", "coordinates": [[[8, 47], [8.01, 47], [8.01, 47.01]]]}'
+BOUNDED = (
+    HEAD.replace("gpscover 1", "gpscover 4")
+    + WITHIN
+    + "".join(
+        f"bound {way} {most} 1\nby 0 0 0 0 0 0 0 0 0 0 0\n"
+        for way, most in (
+            ("1 0 0", 6378140000000),
+            ("-1 0 0", -6378130000000),
+            *((way, 40000000) for way in ("0 1 0", "0 -1 0", "0 0 1", "0 0 -1", "0 1 1")),
+        )
+    )
+)
 GOOD = {
     "log": [(HEAD + text).encode() for text in (PAVED, WITHIN, TUBE, "")]
-    + [(EXAMPLES / "renewed-rows.log").read_bytes()],
+    + [(EXAMPLES / "renewed-rows.log").read_bytes(), BOUNDED.encode()],
     "places": [(RECORDED / "ubx_2008.places").read_bytes()[:2000], b"895816769.999 6378137 25 5\n"],
     "zones": [ZONES.encode()],
     "shape": [KML.encode(), JSON.encode(), b"47 8\n47 8.01\n47.01 8.01\n"],
@@ -80,6 +92,7 @@ def call_of(draw, room):
     return draw.choice(
         [
             (summary, log, draw.choice(["--csv", "--box", "--strict"])),
+            (summary, log, "--csv", "--places", places),
             (summary, log, "--places", places, "--azimuth", number(draw)),
             (summary, log, "--kml", out),
             (summary, log, "--obs", path_of(draw, room, "obs")),
@@ -89,6 +102,8 @@ def call_of(draw, room):
             (observed, log, "--place", number(draw), "1", "0", "--csv"),
             (suspects, "log", log),
             (suspects, "open", log, log, path_of(draw, room, "settings"), "--program", "/nonexistent"),
+            (bounded, log, out),
+            (bounded, log, out, "--directions", draw.choice(["4", "16", number(draw)])),
             (bounds, log, number(draw), "0", "0", "single", "--mask", number(draw)),
             (bounds, log, number(draw), "1", "0", "dual", "--more", number(draw))
             + ("--station", path_of(draw, room, "settings")),

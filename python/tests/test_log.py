@@ -1,6 +1,7 @@
 """Logs of steps that were counted by hand, and logs that are none."""
 
 import math
+import re
 
 import pytest
 from made_logs import HEAD, PAVED, RENEWED, ended_with, epoch_of, epochs_of, written
@@ -178,7 +179,8 @@ class TestLogs:
                     made = [file.read_text() for file in path.parent.glob("out*")]
                     said.append([status, *(it.replace(str(path.parent), "") for it in (out, err, *made))])
             assert said[0][0] == 0
-            assert said[0] == said[1]
+            # These bounds have no end on all sides. A table of such a log has one column more.
+            assert said[0] == [re.sub(r"(?m),(certified|0)$", "", it) if isinstance(it, str) else it for it in said[1]]
 
     def test_what_is_no_log_is_refused_at_its_line(self):
         wrong = {

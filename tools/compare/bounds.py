@@ -1,14 +1,15 @@
 """Logs with bounds for compare.py: right ones, forged ones and drawn ones.
 
-`gpscover` writes no bounds. These come of tools/bound_cases.py, either over a root that is one box or behind the steps of a
-log, and many of them have something changed: whether a bound is right is for both checkers to say. For those over one box the
+`gpscover` writes no bounds. These come of tools/bound_cases.py, over a root that is one box, or of `gpslog bounded`, behind the
+steps of a log, and many of them have something changed: whether a bound is right is for both checkers to say. For those over one box the
 definitions of bound_cases.py say it too.
 """
 
+from gpscover.bound_search import bounds_over
+from gpscover.bounded import bounds_of, directions
 from gpscover.log import Interval, blocks
 from tools.bound_cases import (GREATEST_AIM, GREATEST_END, GREATEST_MULTIPLIER, HalfSpace, Sum, Table, add_any, add_receivers,
                                bound_lines, changed_sum, is_shown, kept_hull, row_line)
-from tools.bounded import bounds_by, bounds_of
 
 WHOLE = "edge 0 -200000000000000 200000000000000"  # holds each clock hull that a log may have
 
@@ -16,6 +17,13 @@ WHOLE = "edge 0 -200000000000000 200000000000000"  # holds each clock hull that 
 def text(lines):
     """The bytes of a log of these lines."""
     return "".join(line + "\n" for line in lines).encode()
+
+
+def as_cases(bounds):
+    """Bounds as tools/bound_cases.py has them."""
+    return [
+        (HalfSpace(it.direction, it.most), [Sum(one.aim, list(map(tuple, one.terms))) for one in it.sums]) for it in bounds
+    ]
 
 
 def fits(half, sums):
@@ -104,7 +112,8 @@ class Behind:
         self.rows = epoch.renewals[-1].rows if epoch.renewals else epoch.rows
         self.hull, self.root, self.done = kept_hull(epoch), epoch.root, len(self.lines) - 1
         self.narrow = [self.narrower(row) for row in self.rows]
-        self.bounds, self.by_narrow = bounds_of(epoch), list(bounds_by(self.narrow, self.hull, epoch.outliers))
+        by_narrow = bounds_over(self.narrow, self.hull, epoch.outliers, directions(self.root, 4))
+        self.bounds, self.by_narrow = as_cases(bounds_of(epoch, 4)), as_cases(by_narrow)
 
     @staticmethod
     def narrower(row):

@@ -8,7 +8,7 @@ from unittest import mock
 import pytest
 
 from gpscover.log import Row
-from tools import bench, exact_extents, largest_sizes, long_day, pairs_table, renewed
+from tools import bench, certified_table, exact_extents, largest_sizes, long_day, pairs_table, renewed
 from tools.made import orbits
 from tools.tests.logs import FIVE, HEAD, PAVED, RENEWED, ended, epoch_of, written
 
@@ -167,3 +167,23 @@ esac
         assert "status 1 no 65 BadRenew line 7" in err
         status, _, err = self.table(stub=self.STUB.replace('"yes 2"', '"yes $#"'))
         assert (status, err) == (1, "renewed.py: the checkers don't count the same boxes\n")
+
+
+class TestCertifiedTable:
+    LOG = Path(__file__).resolve().parents[2] / "crates/gpscover/data/receiver.log"
+
+    def test_bounds_are_near_and_boxes_reach_further(self):
+        status, out, err = ended(certified_table, self.LOG, "--every", "2", "--directions", "4")
+        assert (status, err) == (0, "")
+        head, rule, row = (line.strip("|").split("|") for line in out.splitlines())
+        assert len(head) == len(rule) == len(row) == 8
+        name, q, splits, boxes, bounds, found, _, _ = (cell.strip() for cell in row)
+        assert (name, q, found) == ("receiver", "1", "12 of 12")
+        assert int(splits) > 0
+        assert all(float(part) > 3 for part in boxes.split(" %")[0].split(","))
+        mean, worst = (float(part) for part in bounds.removesuffix(" mm").split(","))
+        assert -1 < mean <= worst < 20
+
+    def test_what_is_no_log(self):
+        status, out, err = ended(certified_table, __file__)
+        assert status == 1 and err.count("\n") == 1

@@ -8,6 +8,7 @@ from collections.abc import Sequence
 
 from gpscover import (
     begin,
+    bounded,
     bounds,
     evidence,
     export,
@@ -37,6 +38,7 @@ MODULES = (
     suspects,
     bounds,
     observed,
+    bounded,
     risk,
     shapes,
     zones,

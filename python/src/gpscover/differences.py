@@ -11,6 +11,7 @@ import math
 import statistics
 from collections.abc import Iterator
 
+from gpscover.command import GREATEST
 from gpscover.errors import Error
 from gpscover.geodesy import Vector, elevation, geodetic
 from gpscover.log import UM_PER_M, Epoch, PathLike, epochs
@@ -36,7 +37,7 @@ def differences_of(epoch: Epoch, place: Vector) -> list[Difference]:
 def station_place(settings: PathLike) -> Vector:
     """Where the settings say that the station stands, in m."""
     station = Settings.read(settings).station
-    if station is None or isinstance(station.place, str):
+    if station is None or isinstance(station.place, str) or max(abs(end) for end in station.place) > GREATEST:
         raise Error(f"{settings}: [station] doesn't say a place in mm")
     x, y, z = (end / 1000 for end in station.place)
     return x, y, z

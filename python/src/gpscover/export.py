@@ -22,19 +22,21 @@ from pathlib import Path
 from gpscover import frames, geojson, kml
 from gpscover.command import Command, absent, whole_file
 from gpscover.errors import Error
-from gpscover.log import epochs, open_log
+from gpscover.log import epochs, has_bounds, open_log
 from gpscover.region import region_or_none
-from gpscover.summary import COLUMNS, csv_line, mark_of
+from gpscover.summary import CERTIFIED_COLUMNS, COLUMNS, certified_values, csv_line, mark_of
 
 
 def write_csv(log: str, out: str) -> None:
     """Writes the values of each epoch."""
     with whole_file(out) as file:
         writer = csv.writer(file, lineterminator="\n")
-        writer.writerow(COLUMNS)
+        bounded = has_bounds(log)
+        writer.writerow(COLUMNS + (CERTIFIED_COLUMNS if bounded else []))
         for epoch in epochs(log):
             region = region_or_none(epoch)
-            writer.writerow(csv_line(epoch, region, mark_of(epoch, region)))
+            line = csv_line(epoch, region, mark_of(epoch, region))
+            writer.writerow(line + (certified_values(region) if bounded else []))
 
 
 def write_kml(log: str, out: str) -> None:

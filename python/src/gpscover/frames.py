@@ -8,9 +8,9 @@ from typing import TYPE_CHECKING, Any
 
 from gpscover.command import Command, absent, name_ending
 from gpscover.errors import Error
-from gpscover.log import Epoch, Log, open_log
+from gpscover.log import Epoch, Log, has_bounds, open_log
 from gpscover.region import region_or_none
-from gpscover.summary import mark_of
+from gpscover.summary import CERTIFIED_COLUMNS, certified_values, mark_of
 from gpscover.geodesy import geodetic
 
 if TYPE_CHECKING:
@@ -57,9 +57,12 @@ def epoch_row(epoch: Epoch) -> tuple[Any, ...]:
 def epochs_frame(log: Log) -> pandas.DataFrame:
     """A row an epoch: time in GPS time, counts, and the region's lengths and middle in metres.
 
-    `ps` is the exact time in ps, as Python's whole numbers.
+    `ps` is the exact time in ps, as Python's whole numbers. A log that may have bounds has a column `certified` too.
     """
-    return frame_of(EPOCH_COLUMNS + REGION_COLUMNS, map(epoch_row, log))
+    if not has_bounds(log.path):
+        return frame_of(EPOCH_COLUMNS + REGION_COLUMNS, map(epoch_row, log))
+    rows = ((*epoch_row(epoch), *certified_values(region_or_none(epoch))) for epoch in log)
+    return frame_of(EPOCH_COLUMNS + REGION_COLUMNS + CERTIFIED_COLUMNS, rows)
 
 
 def numbers(values: list[Any]) -> Any:

@@ -32,6 +32,7 @@ def feature(epoch: Epoch, region: Region | None) -> dict[str, Any]:
         low, high = heights(region)
         lengths = zip(("east_m", "north_m", "up_m"), map(upward, region.widths()))
         properties |= {**dict(lengths), "height_low_m": low, "height_high_m": high}
+        properties |= {"certified": True} if region.certified else {}
         geometry = {"type": "Polygon", "coordinates": [ring(epoch, region)]}
     return {"type": "Feature", "geometry": geometry, "properties": properties}
 

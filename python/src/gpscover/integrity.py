@@ -1,5 +1,6 @@
-"""What a region says of a known place: whether it is in a kept box, and how far the boxes reach from it.
+"""What a region says of a known place: whether it holds it, and how far it reaches from it.
 
+The region is the kept boxes. Where the log has certified bounds that have an end on all sides, it is what these leave.
 All lengths are of the declared bounds and hold while these do; none of them is of a probability. A receiver doesn't
 know its place. So what a user of the region can do is judged by its middle: the middle is the position that is
 reported, the farthest corner from it the protection, and how far it is from the known place the error.
@@ -12,6 +13,7 @@ import math
 from collections.abc import Iterator, Sequence
 from dataclasses import dataclass
 
+from gpscover.certified import corners_of
 from gpscover.command import measure
 from gpscover.geodesy import Frame, Vector, dot
 from gpscover.log import UM_PER_M, Epoch
@@ -37,11 +39,12 @@ class Limits:
 class Numbers:
     """Of an epoch with a region and a known place; lengths in m."""
 
-    held: bool  # the place is in a kept box
+    held: bool  # the place is in a kept box and within every bound
     hpl: float  # the farthest corner from the place along the ground
     vpl: float  # and up or down
     error: Pair  # how far the region's middle is from the place along the ground, and up or down
     reach: Pair  # the farthest corner from the middle
+    certified: bool = False  # whether the corners are those of bounds
     azimuth: float | None = None  # in radians, clockwise from north
     along: float | None = None  # the farthest corner from the place along that direction
     across: float | None = None
@@ -78,8 +81,8 @@ def in_um(point: Sequence[float]) -> list[int]:
 
 
 def is_held(epoch: Epoch, point: Vector) -> bool:
-    """Whether a point in m is in a kept box of an epoch."""
-    return any(box.contains(point) for box in epoch.boxes)
+    """Whether a point in m is in a kept box of an epoch, and within each of its bounds."""
+    return any(box.contains(point) for box in epoch.boxes) and all(it.reach(point) >= 0 for it in epoch.bounds)
 
 
 def in_search_box(epoch: Epoch, point: Vector) -> bool:
@@ -103,13 +106,13 @@ def farthest_along_ground(centres: list[Vector], halves: list[Vector], east: Vec
 
 
 class Corners:
-    """The corners of an epoch's kept boxes as they are seen from a point in m."""
+    """The corners of an epoch's kept boxes, or of what its certified bounds leave, as they are seen from a point in m."""
 
     def __init__(self, epoch: Epoch, point: Vector) -> None:
-        origin = in_um(point)
         self.east, self.north, self.up = Frame.at(point).axes
-        self.centres = offsets(epoch.boxes, origin)
-        self.halves = [half_sides(kept.box) for kept in epoch.kept]
+        corners = corners_of(epoch.bounds, point)
+        self.centres = corners or offsets(epoch.boxes, in_um(point))
+        self.halves = [(0.0, 0.0, 0.0)] * len(corners) or [half_sides(kept.box) for kept in epoch.kept]
 
     def farthest(self, axis: Sequence[float]) -> float:
         """How far the farthest corner is from the point along an axis, either way."""
@@ -137,7 +140,8 @@ def apart(place: Vector, point: Vector) -> Pair:
 def numbers_of(epoch: Epoch, region: Region, place: Vector, azimuth: float | None = None) -> Numbers:
     """The numbers of an epoch that has a region, for a known place in m."""
     corners, middle = Corners(epoch, place), region.middle()
-    found = Numbers(is_held(epoch, place), *corners.pair(), apart(place, middle), Corners(epoch, middle).pair())
+    error, reach = apart(place, middle), Corners(epoch, middle).pair()
+    found = Numbers(is_held(epoch, place), *corners.pair(), error, reach, region.certified)
     if azimuth is not None:
         found.azimuth = azimuth
         found.along, found.across = corners.along_across(azimuth)
@@ -159,6 +163,7 @@ class Judge:
         self.lost: list[int] = []  # the numbers of the epochs whose region doesn't hold the place
         self.farthest = [0.0] * 4  # hpl, vpl, along, across
         self.directed = self.available = self.misleading = self.hazardous = 0
+        self.certified = 0  # regions whose lengths are those of bounds
 
     @property
     def has_direction(self) -> bool:
@@ -187,6 +192,7 @@ class Judge:
         self.regions += 1
         self.held += found.held
         self.misleading += not found.held
+        self.certified += found.certified
         if not found.held:
             self.lost.append(epoch.index)
             self.outside_box += not in_search_box(epoch, place)
@@ -222,6 +228,8 @@ class Judge:
                 f"farthest corner from them: {hpl} along the ground, {vpl} up or down; of declared"
                 " bounds, not of a probability"
             )
+        if self.certified:
+            yield f"by certified bounds in {self.certified} of the {self.regions} regions"
         if self.directed:
             yield f"in {self.directed} epochs with a direction: {along} along it, {across} across"
         yield from self.limit_lines()
@@ -229,10 +237,11 @@ class Judge:
     def warnings(self) -> Iterator[str]:
         """What must not be passed over."""
         if self.lost:
+            box = "box within every bound" if self.certified else "box"
             where = f", in {self.outside_box} of these since it is outside the search box" if self.outside_box else ""
             yield (
                 f"in {len(self.lost)} of {self.regions} regions the known place isn't in a kept"
-                f" box{where}; the first is epoch {self.lost[0]}: more satellites than allowed"
+                f" {box}{where}; the first is epoch {self.lost[0]}: more satellites than allowed"
                 " broke their bounds there, or the place is wrong"
             )
         if self.placeless:

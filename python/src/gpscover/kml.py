@@ -93,8 +93,9 @@ def words(epoch: Epoch, region: Region | None, mark: str) -> str:
         return f"{said}, {mark}"
     east, north, up = (upward(width) for width in region.widths())
     low, high = heights(region)
+    certified = ", certified" if region.certified else ""
     cut = f", reaches the search box at {' '.join(region.faces)}" if region.faces else ""
-    return f"{said}, east {east:.1f} m, north {north:.1f} m, up {up:.1f} m, height {low:.1f} to {high:.1f} m{cut}"
+    return f"{said}, east {east:.1f} m, north {north:.1f} m, up {up:.1f} m, height {low:.1f} to {high:.1f} m{certified}{cut}"
 
 
 def placemark(epoch: Epoch, region: Region | None, mark: str) -> str:

@@ -554,6 +554,12 @@ def rules_of(path: PathLike) -> Rules:
         raise LogError(f"{path} line {number}: this isn't a log of gpscover") from None
 
 
+def has_bounds(path: PathLike) -> bool:
+    """Whether the log at `path` is of the version in which epochs may have bounds."""
+    with open_text(path) as file:
+        return file.readline(100) == f"{HEADS[3]}\n"
+
+
 class Log:
     """A log at a path. Each time that it is iterated its epochs are read anew."""
 

@@ -75,6 +75,7 @@ CELLS = (  # the columns of text_cells, by name and title
     ("faces", "faces"),
 )
 PLACE_CELLS = (("held", "held"), ("hpl", "hpl m"), ("vpl", "vpl m"))  # with known places
+CERTIFIED = ("certified", "certified")  # a column where an epoch has lengths by certified bounds
 MARK_WORDS = {
     "": "",
     "few": "Too few usable satellites, so the epoch isn't paved.",
@@ -221,6 +222,7 @@ class Collected:
         self.cells = CELLS + (PLACE_CELLS if judge else ())
         self.rows: list[list[str]] = []
         self.size = 0
+        self.certified: list[str] = []  # of each epoch 1 or an empty text
         self.details, self.boxes = Thinned(), Thinned()
         self.totals = Totals()
 
@@ -237,7 +239,8 @@ class Collected:
             + [mark, " ".join(region.faces) if region else ""]
             + self.known(epoch, region)
         )
-        self.size += len(to_json(self.rows[-1]))
+        self.certified.append("1" if region and region.certified else "")
+        self.size += len(to_json([*self.rows[-1], self.certified[-1]]))
         if self.details.wants(position):
             self.details.add(position, detail(epoch, region, mark))
         if region and self.details.wants(position) and self.boxes.wants(position):
@@ -316,6 +319,9 @@ def page_data(
     warnings += settings_differ(settings, rules) if settings else []
     judge = collected.judge
     said = [*collected.totals.warnings(), *(judge.warnings() if judge else ())]
+    cells, rows = list(collected.cells), collected.rows
+    if any(collected.certified):
+        cells, rows = [*cells, CERTIFIED], [[*row, word] for row, word in zip(rows, collected.certified)]
     return {
         "logs": [Path(name).name for name in args.log],
         "rules": {"q": rules.outliers, "splits": rules.splits, "width": metres(rules.width)},
@@ -324,9 +330,8 @@ def page_data(
         "notes": list(collected.notes()),
         "every": {"details": collected.details.every, "boxes": collected.boxes.every},
         "range": [number for number in (args.first, args.last) if number is not None],
-        "columns": [[name, title] for name, title in collected.cells],
-        "table": dict(zip((name for name, _ in collected.cells), map(list, zip(*collected.rows))))
-        or {name: [] for name, _ in collected.cells},
+        "columns": [[name, title] for name, title in cells],
+        "table": {name: [row[k] for row in rows] for k, (name, _) in enumerate(cells)},
         "marks": MARK_WORDS,
         "settings": settings,
         "settingsName": Path(args.settings).name if args.settings else None,

@@ -8,7 +8,8 @@ usage: gpslog draw region LOG OUT [--epoch N] [--place X Y Z] [--places FILE] [-
        gpslog draw observed LOG OUT (--place X Y Z | --places FILE) [--note TEXT]
 
 `region` draws one epoch (1) from above, east and north, and from the side, east and up, at one
-scale: the kept boxes as they are, inner ones over those at the edge. Those on a face of the search
+scale: the kept boxes as they are, inner ones over those at the edge, and over them the outline of
+what certified bounds leave. Those on a face of the search
 box, where the region may go on outside, have a colour of their own. A place in metres in the earth-
 fixed frame, or that of the epoch in a list of places, is a cross and the origin; without one the
 origin is the middle of the kept boxes. The title has the splits of the epoch.
@@ -56,13 +57,14 @@ from typing import Any, TypeVar
 
 from gpscover.command import Command, absent, measure, name_ending, work_of
 from gpscover.errors import Error
-from gpscover.geodesy import Frame, Vector
-from gpscover.integrity import Judge, Limits, Numbers, limit_argument
+from gpscover.geodesy import Frame, Vector, dot
+from gpscover.integrity import Judge, Limits, Numbers, in_um, limit_argument
 from gpscover.log import PS_PER_MS, UM_PER_M, Box, Epoch, PathLike, calendar, epochs
 from gpscover.observed import Found, meetings_of, observed, place_words, share
 from gpscover.outline import Flat, convex_hull, outline
 from gpscover.places import Meetings
-from gpscover.region import Extent, Region, region_of, reaches, region_or_none, touched_faces, upward
+from gpscover.region import Extent, Region, extent_along, half_sides, offsets, reaches, region_of, region_or_none
+from gpscover.region import touched_faces, upward
 from gpscover.shapes import corners
 from gpscover.zones import Corners, Reach, Zone, read_zones
 
@@ -95,6 +97,11 @@ def tools() -> tuple[Any, Any]:
     except ImportError:
         raise absent("matplotlib", "-m gpscover draw ") from None
     return pyplot, collections
+
+
+def by_bounds(count: int) -> str:
+    """What a title says of so many regions with the lengths of certified bounds."""
+    return f"; by certified bounds in {count} regions" if count else ""
 
 
 def with_note(title: str, note: str | None, before: str = "\n") -> str:
@@ -180,9 +187,19 @@ def draw_boxes(axes: Any, epoch: Epoch, region: Region, pair: tuple[str, str], d
             axes.add_collection(collections.PolyCollection(polygons, facecolors=colour, label=label, **style))
 
 
-def limits_of(region: Region, name: str, with_place: bool) -> Extent:
-    """What a direction shows: the extents with a margin, and the origin where it is a place."""
-    low, high = region.extents[NAMES.index(name)]
+def draw_certified(axes: Any, region: Region, pair: tuple[str, str]) -> None:
+    """Draws the outline of what the bounds of an epoch leave in the plane of two directions."""
+    first, second = (region.axes[NAMES.index(name)] for name in pair)
+    ring = convex_hull((dot(first, corner), dot(second, corner)) for corner in region.corners)
+    style = {"facecolor": "none", "edgecolor": EDGE_LINE_COLOUR, "linewidth": 1.4}
+    axes.fill(*zip(*ring), label="certified bounds", **style)
+
+
+def limits_of(epoch: Epoch, region: Region, name: str, with_place: bool) -> Extent:
+    """What a direction shows: the boxes and the extents with a margin, and the origin where it is a place."""
+    axis, origin = region.axes[NAMES.index(name)], in_um(region.origin)
+    boxes = extent_along(axis, offsets(epoch.boxes, origin), [half_sides(box) for box in epoch.boxes])
+    low, high = (end(pair) for end, pair in zip((min, max), zip(boxes, region.extents[NAMES.index(name)])))
     if with_place:
         low, high = min(low, 0.0), max(high, 0.0)
     margin = 0.05 * (high - low)
@@ -195,10 +212,11 @@ def region_title(epoch: Epoch, region: Region) -> str:
     A third where the box cuts it.
     """
     east, north, up = (upward(width) for width in region.widths())
+    certified = " by certified bounds" if region.certified else ""
     cut = f"\nreaches the search box at {' '.join(region.faces)}: it may go on outside" if region.faces else ""
     return (
         f"epoch {epoch.index}, {calendar(epoch.ps)} GPS time, {epoch.satellites} satellites, q = {epoch.outliers},"
-        f" {epoch.splits:,} splits\neast {east:.1f} m, north {north:.1f} m, up {up:.1f} m{cut}"
+        f" {epoch.splits:,} splits\neast {east:.1f} m, north {north:.1f} m, up {up:.1f} m{certified}{cut}"
     )
 
 
@@ -218,11 +236,13 @@ def panels_at_one_scale(pyplot: Any, shown: dict[str, Extent]) -> tuple[Any, lis
 def draw_region(epoch: Epoch, place: Vector | None, out: str, note: str | None) -> None:
     """Draws the region of one epoch from above and from the side."""
     region = region_of(epoch, place)
-    shown = {name: limits_of(region, name, place is not None) for name in NAMES}
+    shown = {name: limits_of(epoch, region, name, place is not None) for name in NAMES}
     figure, both = panels_at_one_scale(tools()[0], shown)
     origin = "the cross" if place is not None else "the middle"
     for axes, pair in zip(both, DIRECTIONS):
         draw_boxes(axes, epoch, region, pair, out.endswith(".svg") and len(epoch.kept) > MANY_BOXES)
+        if region.certified:
+            draw_certified(axes, region, pair)
         if place is not None:
             axes.plot([0], [0], "+", color=PLACE_COLOUR, markersize=12, markeredgewidth=1.8, label="known place")
         axes.set(xlim=shown["east"], ylim=shown[pair[1]])
@@ -272,6 +292,7 @@ class Course:
         self.known: list[Vector] = []
         self.cut: list[bool] = []  # whether the region reaches the search box
         self.empty: list[bool] = []  # whether no position fits
+        self.certified = 0  # how many regions have the extents of bounds
 
     def origin_for(self, epoch: Epoch, place: Vector | None) -> Vector | None:
         """Where the axes of an epoch stand."""
@@ -288,6 +309,7 @@ class Course:
         region = region_of(epoch, origin) if origin is not None else None
         self.times.append(epoch.ps / 1e12)
         self.extents.append(region.extents if region is not None else (NOWHERE, NOWHERE, NOWHERE))
+        self.certified += region is not None and region.certified
         self.cut.append(reaches(epoch))
         self.empty.append(epoch.empty)
         known = (math.nan, math.nan, math.nan)
@@ -297,7 +319,8 @@ class Course:
 
     def title(self) -> str:
         """How many epochs there are, and how many have a colour of their own."""
-        return f"{len(self.times)} epochs; {sum(self.cut)} reach the search box, {sum(self.empty)} are empty"
+        counts = f"{len(self.times)} epochs; {sum(self.cut)} reach the search box, {sum(self.empty)} are empty"
+        return counts + by_bounds(self.certified)
 
 
 def edges_of(times: list[float]) -> list[Extent]:
@@ -375,6 +398,7 @@ class Tube:
         self.known: list[Flat] = []
         # The number of a lost epoch, and the outline of its search box.
         self.lost: tuple[int, list[Flat]] | None = None
+        self.certified = 0  # how many regions have the lengths of bounds
 
     def add(self, epoch: Epoch) -> None:
         """Adds an epoch; one without a region has no outline."""
@@ -384,6 +408,7 @@ class Tube:
             self.frame = Frame.at(region.middle())
         self.times.append(epoch.ps / 1e12)
         self.widths.append(region.widths() if region is not None else [math.nan] * 3)
+        self.certified += region is not None and region.certified
         if self.frame is not None:
             self.add_shapes(self.frame, epoch, place)
 
@@ -403,7 +428,7 @@ class Tube:
     def title(self) -> str:
         """How many epochs there are, and where it ends."""
         lost = f"; lost at epoch {self.lost[0]}" if self.lost else ""
-        return f"{len(self.times)} epochs, {len(self.rings)} with a region{lost}"
+        return f"{len(self.times)} epochs, {len(self.rings)} with a region{lost}{by_bounds(self.certified)}"
 
 
 def tube_of(path: PathLike, meetings: Meetings) -> Tube:
@@ -619,7 +644,8 @@ def draw_integrity(judge: Judge, points: list[Judged], out: str, note: str | Non
     for k, (axes, name) in enumerate(zip(panels, ("along the ground", "up or down"))):
         draw_diagram(axes, points, k, limits[k])
         axes.set(xlabel=f"error of the region's middle {name}, m", ylabel=f"protection {name}, m")
-    title = "\n".join([judge.held_line(), *judge.limit_lines(), "of declared bounds, not of a probability"])
+    last = f"of declared bounds, not of a probability{by_bounds(judge.certified)}"
+    title = "\n".join([judge.held_line(), *judge.limit_lines(), last])
     figure.suptitle(with_note(title, note), fontsize=10)
     finish(figure, legend_of(panels[0]), out, rect=(0, 0.07, 1, 1))
 

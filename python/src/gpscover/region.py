@@ -1,12 +1,16 @@
-"""The region of an epoch: its extents along local east, north and up, in metres, from the kept boxes' corners."""
+"""The region of an epoch: its extents along local east, north and up, in metres.
+
+They are those of the kept boxes' corners, or of the certified bounds where these have an end on all sides.
+"""
 
 from __future__ import annotations
 
 import math
 from collections.abc import Iterable, Sequence
-from dataclasses import dataclass
+from dataclasses import dataclass, field
 from operator import add, sub
 
+from gpscover.certified import corners_of
 from gpscover.errors import Error
 from gpscover.geodesy import Frame, Vector
 from gpscover.log import UM_PER_M, Box, Epoch
@@ -19,15 +23,22 @@ FACES = ("-x", "-y", "-z", "+x", "+y", "+z")
 
 @dataclass
 class Region(Frame):
-    """Where the kept boxes of an epoch lie.
+    """Where the kept boxes of an epoch lie, and what its certified bounds leave.
 
-    `extents` are (low, high) along east, north, up from `origin`.
+    `extents` are (low, high) along east, north, up from `origin`: of the bounds where `certified` says so, else of the
+    boxes.
     """
 
     extents: tuple[Extent, Extent, Extent]
     clock: Extent  # the least and the greatest clock offset in m
     volume: float  # of the kept boxes, in m^3
     faces: list[str]  # those of the search box that a kept box touches
+    corners: list[Vector] = field(default_factory=list)  # of what the bounds leave, in m from the origin
+
+    @property
+    def certified(self) -> bool:
+        """Whether the extents are those of bounds."""
+        return bool(self.corners)
 
     def widths(self) -> list[float]:
         """How far the region reaches along east, north and up."""
@@ -96,6 +107,9 @@ def region_of(epoch: Epoch, origin: Sequence[float] | None = None) -> Region:
     frame = Frame.at((x, y, z))
     centres = offsets(boxes, origin_um)
     halves = [half_sides(box) for box in boxes]
+    corners = corners_of(epoch.bounds, frame.origin)
+    if corners:
+        centres, halves = corners, [(0.0, 0.0, 0.0)] * len(corners)
     east, north, up = (extent_along(axis, centres, halves) for axis in frame.axes)
     lows, highs = zip(*(kept.clock for kept in epoch.kept))
     return Region(
@@ -103,8 +117,9 @@ def region_of(epoch: Epoch, origin: Sequence[float] | None = None) -> Region:
         frame.axes,
         (east, north, up),
         (min(lows) / UM_PER_M, max(highs) / UM_PER_M),
-        sum(8 * p * q * r for p, q, r in halves),
+        sum(8 * p * q * r for p, q, r in map(half_sides, boxes)),
         touched_faces(hull, epoch.search),
+        corners,
     )
 
 

@@ -7,7 +7,9 @@ A line has the epoch's number, its time of reception by the receiver's clock as 
 usable satellites, the numbers of in and edge boxes, how far these boxes reach along local east,
 north and up (from their corners) and in the clock, in metres rounded up, their volume in cubic
 metres, and the latitude, longitude (degrees) and height above the ellipsoid (metres) of the middle.
-A mark behind it says
+Where the epoch has bounds with an end on all sides (`gpslog bounded`), east, north, up and the
+middle are those of what they leave, and so is all that is said of a known place: `certified` says
+so, with --csv in a column of its own in a log that may have bounds. A mark behind it says
   few      too few usable satellites, so the epoch isn't paved
   empty    no position fits: more satellites than allowed broke their bounds, or the receiver was
            outside the box
@@ -55,7 +57,7 @@ from gpscover.command import Command, measure, whole_file
 from gpscover.errors import Error, UsageError
 from gpscover.geodesy import geodetic
 from gpscover.integrity import Judge, Limits, Numbers, limit_argument
-from gpscover.log import PS_PER_MS, UM_PER_M, Box, Epoch, PathLike, SkipReason, calendar, epochs
+from gpscover.log import PS_PER_MS, UM_PER_M, Box, Epoch, PathLike, SkipReason, calendar, epochs, has_bounds
 from gpscover.observations import file_epochs
 from gpscover.places import Meetings, read_places
 from gpscover.region import Region, hull_of, region_or_none, upward
@@ -77,6 +79,7 @@ PLACE_COLUMNS = (
     "held hpl_m vpl_m horizontal_error_m vertical_error_m horizontal_reach_m vertical_reach_m"
     " azimuth_deg along_m across_m available misleading hazardous"
 ).split()
+CERTIFIED_COLUMNS = ["certified"]  # of a log that may have bounds
 OTHER_DAY = "; is the navigation file of another day?"
 NO_CENTRE = "; is the position in the header zero, or search.centre in metres?"
 HINTS = {
@@ -149,7 +152,8 @@ def text_line(epoch: Epoch, region: Region | None, mark: str, place: str = "") -
     if region is None:
         return f"{head} {mark}"
     line = head + "".join(f" {cell:>{width}}" for cell, width in zip(more, WIDTHS))
-    return f"{line}{place} {mark} {' '.join(region.faces)}".rstrip()
+    certified = " certified" if region.certified else ""
+    return f"{line}{place}{certified} {mark} {' '.join(region.faces)}".rstrip()
 
 
 def direction_values(found: Numbers) -> list[str]:
@@ -188,6 +192,11 @@ def csv_line(epoch: Epoch, region: Region | None, mark: str) -> list[Cell]:
     line += [f"{end:.3f}" for end in region.clock] + [f"{region.volume:.6g}"]
     line += [f"{math.degrees(latitude):.9f}", f"{math.degrees(longitude):.9f}", f"{height:.3f}"]
     return line + [f"{value:.3f}" for value in region.middle()] + [" ".join(region.faces)]
+
+
+def certified_values(region: Region | None) -> list[Cell]:
+    """The value of an epoch in the order of CERTIFIED_COLUMNS."""
+    return ["" if region is None else int(region.certified)]
 
 
 class Totals:
@@ -401,10 +410,12 @@ def print_text(args: argparse.Namespace, outlines: TextIO | None, judge: Judge |
 def print_csv(args: argparse.Namespace, outlines: TextIO | None, judge: Judge | None) -> Totals:
     """Prints the values of all epochs."""
     writer = csv.writer(sys.stdout, lineterminator="\n")
-    writer.writerow(COLUMNS + (PLACE_COLUMNS if judge else []))
+    bounded = has_bounds(args.log)
+    writer.writerow(COLUMNS + (PLACE_COLUMNS if judge else []) + (CERTIFIED_COLUMNS if bounded else []))
 
     def write(epoch: Epoch, region: Region | None, mark: str, found: Numbers | None) -> None:
-        writer.writerow(csv_line(epoch, region, mark) + (place_values(judge, region, found) if judge else []))
+        line = csv_line(epoch, region, mark) + (place_values(judge, region, found) if judge else [])
+        writer.writerow(line + (certified_values(region) if bounded else []))
 
     return summarize(args.log, write, outlines, judge)
 

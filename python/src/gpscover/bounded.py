@@ -1,0 +1,113 @@
+"""Adds certified bounds to a log: half-spaces that hold what fits of an epoch, with the sums of rows that show them.
+
+usage: gpslog bounded LOG NEW [--directions 4|8|16]
+
+NEW is LOG as a log of version 4: behind the steps of each epoch that keeps a box stand bounds along so many azimuths (8),
+evenly from east, and up and down. What they are is said in docs/LOG.md. Bounds that LOG has already are left away. A
+bound is written where whole numbers show it, and `gpscover check` proves it anew; it wants `search.pairs = true` in the
+settings. Along a direction where none is found there is none, and with more than 4 outliers there are none at all.
+
+Exit status: 0; 1 where a file can't be read or written, or LOG is no whole log; 2 for a wrong command line.
+"""
+
+from __future__ import annotations
+
+import argparse
+import math
+import os
+from collections.abc import Iterator, Sequence
+
+from gpscover.bound_search import bounds_over
+from gpscover.command import Command, whole_file
+from gpscover.errors import Error
+from gpscover.geodesy import Frame
+from gpscover.log import HEADS, Bound, Box, Epoch, PathLike, Row, epochs, open_text
+from gpscover.region import hull_of
+from gpscover.row_sums import Whole
+
+COUNTS = (4, 8, 16)  # of azimuths
+USUAL = 8
+PARTS = 10**6  # of the length of a direction
+
+
+def in_parts(vector: Sequence[float]) -> Whole:
+    """A unit vector in millionths."""
+    x, y, z = (round(PARTS * part) for part in vector)
+    return x, y, z
+
+
+def negative(way: Whole) -> Whole:
+    """The opposite direction."""
+    x, y, z = way
+    return -x, -y, -z
+
+
+def directions(search: Box, count: int) -> list[Whole]:
+    """So many azimuths, evenly from east over north, and up and down, at the middle of a search box; in millionths."""
+    east, north, up = Frame.at(search.centre).axes
+    turns = [2 * math.pi * k / count for k in range(count // 2)]
+    half = [in_parts([math.cos(turn) * e + math.sin(turn) * n for e, n in zip(east, north)]) for turn in turns]
+    return [*half, *map(negative, half), in_parts(up), negative(in_parts(up))]
+
+
+def lies_in(box: Box, other: Box) -> bool:
+    """Whether a box lies in another."""
+    return all(a >= b for a, b in zip(box.low, other.low)) and all(a <= b for a, b in zip(box.high, other.high))
+
+
+def rows_over(epoch: Epoch, hull: Box) -> list[Row]:
+    """The rows that show bounds over the hull of the kept boxes: those in use at the end where it lies in their box, and
+    else the first ones."""
+    last = epoch.renewals[-1:]
+    return last[0].rows if last and lies_in(hull, last[0].box) else epoch.rows
+
+
+def bounds_of(epoch: Epoch, count: int = USUAL) -> list[Bound]:
+    """The bounds of an epoch along so many azimuths, and up and down; none where it keeps no box."""
+    if not epoch.kept or epoch.root is None:
+        return []
+    hull = hull_of(epoch.boxes)
+    return bounds_over(rows_over(epoch, hull), hull, epoch.outliers, directions(epoch.root, count))
+
+
+def bound_lines(bound: Bound) -> Iterator[str]:
+    """The lines of a bound and its sums."""
+    yield " ".join(map(str, ("bound", *bound.direction, bound.most, len(bound.sums))))
+    for one in bound.sums:
+        yield " ".join(map(str, ("by", one.aim, *(part for term in one.terms for part in term))))
+
+
+def bounded(path: PathLike, count: int = USUAL) -> Iterator[str]:
+    """The lines of a log with bounds."""
+    paved = (epoch for epoch in epochs(path) if not epoch.few)
+    with open_text(path) as file:
+        next(file, None)
+        yield HEADS[-1]
+        for line in file:
+            if not line.startswith(("bound ", "by ")):
+                yield line.removesuffix("\n")
+            if line.startswith("done "):
+                for bound in bounds_of(next(paved), count):
+                    yield from bound_lines(bound)
+    for _ in paved:  # a log that isn't whole is told of
+        pass
+
+
+def arguments(parser: argparse.ArgumentParser) -> None:
+    """The words of the command line."""
+    parser.add_argument("log", metavar="LOG")
+    parser.add_argument("new", metavar="NEW", help="the log with bounds")
+    told = f"azimuths beside up and down ({USUAL})"
+    parser.add_argument("--directions", type=int, choices=COUNTS, default=USUAL, help=told)
+
+
+def run(args: argparse.Namespace) -> int:
+    """Writes the log. The status."""
+    if os.path.exists(args.new) and os.path.samefile(args.log, args.new):
+        raise Error(f"{args.new} is the log itself: give another name")
+    with whole_file(args.new) as file:
+        file.writelines(f"{line}\n" for line in bounded(args.log, args.directions))
+    return 0
+
+
+COMMAND = Command("bounded", "certified bounds, added to a log", arguments, run, __doc__)

@@ -1,0 +1,122 @@
+#!/usr/bin/env python3
+"""Compares the regions of logs, and their certified bounds, with the exact ones that their rows allow.
+
+usage: python3 -m tools.certified_table LOG [LOG ...] [--directions 4|8|16] [--every N]
+
+A row of the table is of a log in which no rows are renewed. It has q and the splits, by how much on average the kept
+boxes reach further along east, north and up than what the rows allow exactly, in percent and in metres, and how much
+further the bounds go that `gpslog bounded` finds: on average and at worst over all directions, in mm. Then how many of
+the bounds were found, the bytes that an epoch takes without bounds and those of its bounds, and the processor time that
+they take an epoch. Of every N-th epoch (1). The exact region is that of tools/exact_extents.py along the directions of
+the bounds, with each row as wide as the span of its satellite's place makes it, which is left out there: some 0.1 m.
+
+Exit status: 0; 1 where a file can't be read, or LOG is no whole log; 2 for a wrong command line.
+"""
+import argparse
+import math
+import time
+from pathlib import Path
+
+from gpscover.bounded import COUNTS, USUAL, bound_lines, bounds_of, directions
+from gpscover.command import run_tool
+from gpscover.geodesy import dot
+from gpscover.log import UM_PER_M, Log
+from gpscover.region import extent_along, half_sides, hull_of, offsets
+from tools.exact_extents import corners, holds, linear_row
+
+HEAD = "| log | q | splits | boxes: E, N, U | bounds: mean, worst | found | bytes: steps, bounds | time |"
+
+
+def loose_row(row, centre):
+    """A linear row whose place is anywhere in its span."""
+    direction, low, high = linear_row(row, centre)
+    play = sum(abs(part) * span.width for part, span in zip(direction, row.place)) / 2 / UM_PER_M
+    return direction, low - play, high + play
+
+
+class Exact:
+    """The corners that linear rows allow, from a point in m. Those of one epoch in several logs are sought once."""
+
+    def __init__(self):
+        self.known = {}
+
+    def of(self, epoch):
+        """The point and the corners of an epoch."""
+        key = epoch.outliers, repr(epoch.rows)
+        if key not in self.known:
+            centre = hull_of(epoch.boxes).centre
+            linear = [loose_row(row, centre) for row in epoch.rows]
+            needed = len(linear) - epoch.outliers
+            allowed = [it for it in corners(linear) if sum(holds(row, it) for row in linear) >= needed]
+            self.known[key] = centre, allowed
+        return self.known[key]
+
+
+def unit(direction):
+    """A direction with the length 1."""
+    length = math.hypot(*direction)
+    return [part / length for part in direction]
+
+
+class Means:
+    """What is added up of a log."""
+
+    def __init__(self):
+        self.boxes, self.bounds, self.sizes, self.times, self.sought = [], [], [], [], 0
+
+    def add(self, epoch, exact, count):
+        """Adds an epoch."""
+        start = time.process_time()
+        found = bounds_of(epoch, count)
+        self.times.append(time.process_time() - start)
+        self.sought += count + 2
+        self.sizes.append(sum(len(line) + 1 for bound in found for line in bound_lines(bound)))
+        centre, allowed = exact.of(epoch)
+        for bound in found:
+            axis = unit(bound.direction)
+            self.bounds.append(1000 * (bound.reach(centre) - max(dot(axis, corner) for corner in allowed)))
+        centres = offsets(epoch.boxes, [round(part * UM_PER_M) for part in centre])
+        halves = [half_sides(box) for box in epoch.boxes]
+        ways = directions(epoch.root, 4)
+        for axis in map(unit, (ways[0], ways[1], ways[4])):
+            low, high = extent_along(axis, centres, halves)
+            values = [dot(axis, corner) for corner in allowed]
+            self.boxes.append((high - low, max(values) - min(values)))
+
+    def cells(self, size, epochs):
+        """The cells of the row behind the splits: `size` bytes are of so many epochs."""
+        further = [[box / exact - 1 for box, exact in self.boxes[k::3]] for k in range(3)]
+        metres = [[box - exact for box, exact in self.boxes[k::3]] for k in range(3)]
+        mean = lambda values: sum(values) / len(values)
+        yield f"{', '.join(f'{100 * mean(it):.0f}' for it in further)} %, {', '.join(f'{mean(it):.0f}' for it in metres)} m"
+        yield f"{mean(self.bounds):.1f}, {max(self.bounds):.0f} mm"
+        yield f"{len(self.bounds)} of {self.sought}"
+        yield f"{size / epochs:,.0f}, {mean(self.sizes):,.0f}"
+        yield f"{1000 * mean(self.times):.0f} ms"
+
+
+def row_of(path, exact, count, every):
+    """The row of a log."""
+    log, means, number = Log(path), Means(), 0
+    for number, epoch in enumerate(log, 1):
+        if epoch.kept and number % every == 0:
+            means.add(epoch, exact, count)
+    cells = means.cells(Path(path).stat().st_size, number)
+    return " | ".join(["", Path(path).stem, str(log.rules.outliers), str(log.rules.splits), *cells, ""]).strip()
+
+
+def main():
+    parser = argparse.ArgumentParser(description=__doc__, formatter_class=argparse.RawDescriptionHelpFormatter)
+    parser.add_argument("logs", metavar="LOG", nargs="+")
+    parser.add_argument("--directions", type=int, choices=COUNTS, default=USUAL)
+    parser.add_argument("--every", type=int, default=1, metavar="N")
+    words = parser.parse_args()
+    exact = Exact()
+    print(HEAD, "|" + "---|" * 8, sep="\n")
+    for path in words.logs:
+        print(row_of(path, exact, words.directions, words.every), flush=True)
+    return 0
+
+
+if __name__ == "__main__":
+    run_tool(main)
