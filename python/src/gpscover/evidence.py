@@ -296,7 +296,9 @@ def read_sheet(folder: Path) -> tuple[Lines, Options]:
     parts = (line.partition(" ") for line in lines[1:])
     said = [(name, told) for name, _, told in parts]
     if lines[:1] == [FORMER_HEAD]:
-        raise Error(f"{folder / SHEET} is of a gpscover before this one: check it by the one that its line `version` names")
+        raise Error(
+            f"{folder / SHEET} is of a gpscover before this one: check it by the one that its line `version` names"
+        )
     found = OPTIONS.fullmatch(dict(said).get("options", ""))
     if lines[:1] != [HEAD] or not found or max(map(int, found.groups()[1:])) > GREATEST:
         raise Error(f"{folder / SHEET}: this isn't evidence of gpscover, or it was changed")
