@@ -210,7 +210,7 @@ class TestParts:
 
     def test_without_plotly_a_line_says_so(self):
         told = "has no plotly; Debian: apt-get install python3-plotly, then /usr/bin/python3 -m gpscover"
-        with mock.patch.dict(sys.modules, {"plotly": None}):
+        with mock.patch.dict(sys.modules, {"plotly": None, "plotly.offline": None}):
             with pytest.raises(Error, match=told):
                 made(RECEIVER, "never.html")
 
