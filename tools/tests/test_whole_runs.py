@@ -517,7 +517,7 @@ class TestChecking(WholeRuns):
         """The settings come first, then the navigation file, and the log comes last. Each file is bad that comes behind."""
         files = RECEIVER
         for name, text, refused in (
-            ("a.log", "gpscover 4\n", "log 40 BadLog line 1 kind 1\n"),
+            ("a.log", "gpscover 5\n", "log 40 BadLog line 1 kind 1\n"),
             ("a.obs", OBS.removesuffix("G02\n"), "obs 24 Truncated line 7\n"),
             ("a.nav", BAD_NAV, "nav 23 BadNumber line 3\n"),
             ("a.nav", Zeros(INPUT + 1), f"nav 29 TooLong {INPUT}\n"),
@@ -526,7 +526,7 @@ class TestChecking(WholeRuns):
         ):
             files = files | {name: text}
             self.expect_twice(self.WORDS, files, REFUSED, err=refused)
-        files = RECEIVER | {"a.log": "gpscover 4\n", "a.obs": OBS.removesuffix("G02\n")}
+        files = RECEIVER | {"a.log": "gpscover 5\n", "a.obs": OBS.removesuffix("G02\n")}
         self.expect_twice(["check", "a.obs", "c.nav", "a.toml", "a.log"], files, READ_FAULT, err="nav fault\n")
 
     def test_an_epoch_of_few_satellites_is_solved(self):
