@@ -3,7 +3,8 @@
 ghost use Rattle.std.specs.Prelude.{◌<◌, IfSome};
 
 use crate::basis::Basis;
-use crate::constraints::SIDES;
+use crate::constraints::{SCALE, SIDES};
+use crate::directions::Direction;
 use crate::fixed::{ONE, ratio};
 use sat_model::{RowSum, Term};
 
@@ -68,6 +69,26 @@ impl Certificate {
         })
     }
 
+    /// How many times a direction is in the sum by the search, to the nearest: where the costs have it
+    /// once, with its longest component as one, and once where no row has a part in the sum.
+    pub(crate) fn aim(&self, direction: &Direction) -> i128 {
+        let greatest = i128::from(self.of_row(self.greatest()).unsigned_abs());
+        if greatest == 0 {
+            return 1;
+        }
+        let all = SCALE.wrapping_mul(GREATEST).wrapping_mul(i128::from(ONE));
+        let share = greatest.wrapping_mul(i128::from(direction.longest()));
+        ratio(
+            all.wrapping_mul(2).wrapping_add(share),
+            share.wrapping_mul(2),
+        )
+    }
+
+    /// Whether the constraint is a row, and no side of the box.
+    fn is_row(&self, k: usize) -> bool {
+        k < 5 && self.places[k] >= SIDES
+    }
+
     /// The multiplier of a row, and 0 for a side of the box.
     fn of_row(&self, k: usize) -> i64 {
         if k < 5 && self.places[k] >= SIDES {
@@ -81,7 +102,8 @@ impl Certificate {
     fn greatest(&self) -> usize {
         let mut greatest = 0;
         for k in 0..5 {
-            if self.of_row(k).unsigned_abs() > self.of_row(greatest).unsigned_abs() {
+            let is_first = self.is_row(k) && !self.is_row(greatest);
+            if is_first || self.of_row(k).unsigned_abs() > self.of_row(greatest).unsigned_abs() {
                 greatest = k;
             }
         }

@@ -11,7 +11,7 @@ use row_pairs::{Form, middle_of};
 pub(crate) const SIDES: usize = 3;
 
 /// S, of whose part of an um the bounds of a form are.
-const SCALE: i128 = 4_194_304;
+pub(crate) const SCALE: i128 = 4_194_304;
 
 /// By which a number of 1 / S becomes one with 28 bits behind the point.
 const TO_FIXED: i64 = 64;

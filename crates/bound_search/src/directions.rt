@@ -23,14 +23,18 @@ impl Direction {
             .wrapping_add(z.wrapping_mul(i128::from(self.z)))
     }
 
+    /// Its longest component, in amount.
+    pub(crate) fn longest(&self) -> u64 {
+        self.x
+            .unsigned_abs()
+            .max(self.y.unsigned_abs())
+            .max(self.z.unsigned_abs())
+    }
+
     /// The costs of x, y and z in a search for the furthest point, where the sum of cost times
     /// coordinate is least: the direction turned round, with its longest component as one.
     pub(crate) fn costs(&self) -> [i64; 3] {
-        let longest = self
-            .x
-            .unsigned_abs()
-            .max(self.y.unsigned_abs())
-            .max(self.z.unsigned_abs());
+        let longest = self.longest();
         [
             cost(self.x, longest),
             cost(self.y, longest),

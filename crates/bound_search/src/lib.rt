@@ -5,7 +5,7 @@
 //! the clock offset, once for each choice of rows left out that the sums so far don't cover. An
 //! optimum in these four unknowns has four constraints, and a contradiction five (Helly's theorem).
 //! The search rounds its numbers, and what it finds is tested before it is given out, so nothing has
-//! to be known of it. No log has such half-spaces yet. Places and ranges are in um.
+//! to be known of it. Places and ranges are in um.
 #![tactic(auto)]
 
 mod basis;

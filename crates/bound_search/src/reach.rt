@@ -76,9 +76,35 @@ fn least_on(slope: i128, lo: i64, hi: i64, middle: i64) -> i128 {
     slope.wrapping_mul(i128::from(end.wrapping_sub(middle)))
 }
 
-/// The sum with the aim that suits a direction best: V.d / d.d to the nearest, V being its slopes.
-/// None where it bounds the direction not at all.
-pub(crate) fn aimed(forms: &[Form], direction: &Direction, sum: &RowSum) -> Option<RowSum> {
+/// The sum with the aim by which it ends nearest along a direction: that of its slopes or that of the
+/// search, where sides of the box may have a part in it. None where it bounds the direction not at
+/// all.
+pub(crate) fn aimed(
+    forms: &[Form],
+    part: &Box3,
+    direction: &Direction,
+    sum: &RowSum,
+    of_search: i128,
+) -> Option<RowSum> {
+    let searched = with_aim(sum, of_search);
+    let sloped = with_aim(sum, aim_of_slopes(forms, direction, sum));
+    if end_of(forms, part, direction, &sloped) < end_of(forms, part, direction, &searched) {
+        sloped
+    } else {
+        searched
+    }
+}
+
+/// Where a sum ends, further than any where there is none.
+fn end_of(forms: &[Form], part: &Box3, direction: &Direction, sum: &Option<RowSum>) -> i128 {
+    match *sum {
+        Some(sum) => reach(forms, part, direction, &sum),
+        None => i128::MAX,
+    }
+}
+
+/// V.d / d.d to the nearest, V being the slopes of a sum.
+fn aim_of_slopes(forms: &[Form], direction: &Direction, sum: &RowSum) -> i128 {
     let slopes = slopes_of(forms, sum);
     let along = direction.dot(slopes.x, slopes.y, slopes.z);
     let square = direction.dot(
@@ -87,7 +113,12 @@ pub(crate) fn aimed(forms: &[Form], direction: &Direction, sum: &RowSum) -> Opti
         i128::from(direction.z),
     );
     let twice = along.wrapping_mul(2).wrapping_add(square);
-    let aim = u64::try_from(ratio(twice, square.wrapping_mul(2))).unwrap_or(0);
+    ratio(twice, square.wrapping_mul(2))
+}
+
+/// The sum with this aim; None where a sum can't have it.
+fn with_aim(sum: &RowSum, aim: i128) -> Option<RowSum> {
+    let aim = u64::try_from(aim).ok()?;
     if aim == 0 || aim > MOST_AIM {
         return None;
     }
