@@ -134,4 +134,5 @@ class TestTable:
         words = ["bound_cases.py", "--lists", "2", "--receivers", "0", str(cases), str(answers)]
         with mock.patch("sys.argv", words):
             assert bound_cases.main() == 0
-        assert len(answers.read_text().splitlines()) == 2 + int(capsys.readouterr().out.split()[0])
+        asked, sides, headings = int(capsys.readouterr().out.split()[0]), 5, 3
+        assert len(answers.read_text().splitlines()) == asked + sides + headings
