@@ -10,7 +10,7 @@ import math
 from collections.abc import Sequence
 from typing import NamedTuple
 
-from gpscover.geodesy import Vector, dot
+from gpscover.geodesy import Vector, cross, dot
 from gpscover.log import Bound
 
 MOST_BOUNDS = 64  # which are looked at
@@ -24,11 +24,6 @@ class Plane(NamedTuple):
 
     outward: Vector
     reach: float
-
-
-def cross(a: Vector, b: Vector) -> Vector:
-    """The vector product of two vectors."""
-    return a[1] * b[2] - a[2] * b[1], a[2] * b[0] - a[0] * b[2], a[0] * b[1] - a[1] * b[0]
 
 
 def planes_of(bounds: Sequence[Bound], origin: Vector) -> list[Plane]:

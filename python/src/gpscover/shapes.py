@@ -46,7 +46,7 @@ from typing import Any
 
 from gpscover.command import Command, measure
 from gpscover.errors import Error
-from gpscover.geodesy import Frame, Vector, earth_fixed, geodetic, local_axes
+from gpscover.geodesy import Frame, Vector, cross, earth_fixed, geodetic, local_axes, whole_product
 from gpscover.log import PathLike, epochs
 from gpscover.outline import Flat
 from gpscover.places import Meetings
@@ -121,16 +121,6 @@ def drawn_in(faces: list[Face], by: int) -> list[Side]:
         least = min(product(a, in_um(point)) for point in face.points)
         sides.append((a, math.floor(least) - by * length_above(a)))
     return sides
-
-
-def cross(a: Sequence[Any], b: Sequence[Any]) -> tuple[Any, Any, Any]:
-    """The vector product."""
-    return a[1] * b[2] - a[2] * b[1], a[2] * b[0] - a[0] * b[2], a[0] * b[1] - a[1] * b[0]
-
-
-def whole_product(a: Sequence[int], b: Sequence[int]) -> int:
-    """The product of two vectors of whole numbers."""
-    return a[0] * b[0] + a[1] * b[1] + a[2] * b[2]
 
 
 def corners(sides: Sequence[Side]) -> list[tuple[int, int, int, int]]:
