@@ -5,6 +5,7 @@ import random
 import pytest
 
 from gpscover import bound_search, bounded, region, row_sums
+from gpscover.geodesy import whole_product
 from gpscover.log import Box, epochs
 from tools.bound_cases import Region, any_box, any_row, form, made_rows
 from tools.forged_logs import BOX, CUTS_LEAVE, DATA, put, renewal, text, with_renewals
@@ -37,7 +38,7 @@ class TestFound:
             for at in (0, 1, 2, 3, 8):  # with the opposite direction
                 one, other = (epoch.bounds[at + more] for more in ((0, 4) if at < 4 else (0, 1)))
                 assert one.direction == bounded.negative(other.direction)
-                far = [row_sums.dot(one.direction, corner) for corner in ends]
+                far = [whole_product(one.direction, corner) for corner in ends]
                 assert 20 < one.reach(middle) + other.reach(middle) < (max(far) - min(far)) / 1e12
 
     def test_the_second_checker_accepts_them(self, whole):
@@ -89,7 +90,7 @@ class TestFound:
             allowed = Region([form(row, box) for row in rows], box, q)
             for way in (10**6, 0, 0), (-300000, 400000, -500000):
                 (found,) = bound_search.bounds_over(rows, box, q, [way])
-                exact = allowed.furthest(way)[0] + row_sums.dot(way, row_sums.middle_of(box))
+                exact = allowed.furthest(way)[0] + whole_product(way, row_sums.middle_of(box))
                 assert -1 < (found.most - exact) / math.hypot(*way) < 20_000  # um
 
     def test_rows_of_any_size_end(self):
