@@ -25,7 +25,7 @@ is what `gpslog risk` asks for. Errors of one satellite hardly differ from epoch
 one trial in each stretch of 1,800 s (--stretch), which fails where its bound is surely passed in one of
 its epochs, and the last line has the p that so many failures would exclude with a confidence of 0.95.
 
-docs/GUIDE.md says what may be concluded, and what not. --csv has a line a row, each part as a fraction.
+docs/GUIDE_PLACES.md says what may be concluded, and what not. --csv has a line a row, each part as a fraction.
 
 Exit status: 0; 1 where a file can't be read, LOG is no whole log, or no epoch has a place; 2 for a
 wrong command line.
