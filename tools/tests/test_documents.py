@@ -9,7 +9,7 @@ from unittest import mock
 
 import pytest
 
-from tools import crates_page, headline, statement
+from tools import crates_page, headline, proved, statement
 from tools.tests.logs import ended
 
 TOP = Path(__file__).resolve().parents[2]
@@ -116,6 +116,39 @@ class TestDocuments:
     def test_a_name_that_is_gone_is_told(self):
         with pytest.raises(headline.Gone, match="no definition NoSuchName"):
             headline.definition("crates/sat_model/specs/Fold.antt", "NoSuchName")
+
+
+class TestProved:
+    """docs/PROVED.md has a heading for each crate, and names each call that others may make and each of its clauses."""
+
+    PAGE = (TOP / "docs/PROVED.md").read_text(encoding="utf-8")
+
+    def test_what_it_names_is_there(self):
+        assert [] == list(proved.gone(self.PAGE))
+
+    def test_what_is_there_it_names(self):
+        assert [] == list(proved.untold(self.PAGE))
+
+    def test_each_crate_has_a_heading_or_is_told_to_have_tests_alone(self):
+        behind = self.PAGE.split("## Only tested")[1]
+        crates = re.findall(r"^(\w+):", (TOP / "crates.txt").read_text(encoding="utf-8"), re.MULTILINE)
+        unproved = {crate for crate in crates if f"\n### `{crate}`\n" not in self.PAGE}
+        assert {"gpscover"} == {crate for crate in unproved if f"`{crate}`" not in behind}
+
+    def test_a_bullet_begins_with_its_calls(self):
+        bullet = "`one` of `Thing` (`first`, `second`), `two`, where the words are `three`: so it is of `four`"
+        assert proved.calls(bullet) == [("one", "Thing", ["first", "second"]), ("two", None, [])]
+        page = f"### `row_sums`\n\n- {bullet}.\n- plain words.\n\n## Only tested\n"
+        assert list(proved.gone(page)) == [
+            "row_sums: no one of Thing",
+            "row_sums: no first of one",
+            "row_sums: no second of one",
+            "row_sums: no two",
+            "row_sums: no call in front of 'plain words.'",
+        ]
+        assert list(proved.untold(page)) == [
+            f"row_sums: {name} isn't named" for name in ("forms_show", "shows_half_space", "uncovered_choice")
+        ]
 
 
 class TestEdits:
