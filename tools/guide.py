@@ -4,11 +4,11 @@
 usage: python3 -m tools.guide [--write] [PAGE ..]
 
 The pages are docs/GUIDE.md, docs/GUIDE_TRACKS.md and docs/GUIDE_PLACES.md, in this order where none is named; each
-begins with the commands that make what it wants. Run it at the top of a fresh clone where ./gpscover is built, and convbin,
-rnx2rtkp and parallel are installed, and matplotlib and pandas for the python3 of the path: the commands leave their
-files there. A block of commands is a frame `sh`; where a plain frame comes right behind it, that is its output,
-standard error included. A block that names receiver.ubx, a raw file of the user's, isn't run. With --write the pages get
-what was printed.
+begins with the commands that make what it wants. Run it at the top of a fresh clone where ./gpscover is built, and
+convbin, rnx2rtkp and parallel are installed, and matplotlib and pandas for the python3 of the path: the commands
+leave their files there. A block of commands is a frame `sh`; where a plain frame comes right behind it, that is its
+output, standard error included. A block that names receiver.ubx, a raw file of the user's, isn't run. With --write
+the pages get what was printed.
 
 Exit status: 0; 1 where an output differs, or a command isn't there.
 """
@@ -64,7 +64,7 @@ def is_as_shown(path, write):
 def main():
     words = argparse.ArgumentParser(description=__doc__, formatter_class=argparse.RawDescriptionHelpFormatter)
     words.add_argument("--write", action="store_true", help="write what was printed into the pages")
-    words.add_argument("pages", metavar="PAGE", nargs="*", default=PAGES, help="the pages, all three where none is named")
+    words.add_argument("pages", metavar="PAGE", nargs="*", default=PAGES, help="all three where none is named")
     told = words.parse_args()
     answers = [is_as_shown(Path(page), told.write) for page in told.pages]
     return 0 if all(answers) else 1

@@ -3,9 +3,9 @@
 
 usage: python3 -m tools.proved
 
-A bullet under a crate's heading begins with the calls of which it speaks, each with its clauses in brackets; none there means all.
-Prints what the page names and the crate doesn't have, and the functions that the crate gives to others, and their clauses, that the
-page doesn't name.
+A bullet under a crate's heading begins with the calls of which it speaks, each with its clauses in brackets; none
+there means all. Prints what the page names and the crate doesn't have, and the functions that the crate gives to
+others, and their clauses, that the page doesn't name.
 
 Exit status: 0; 1 where a line is printed.
 """
@@ -71,7 +71,8 @@ def gone(page):
         for name, owner, clauses in named:
             if name not in functions and name not in types or owner and owner not in types:
                 yield f"{crate}: no {name}" + (f" of {owner}" if owner else "")
-            yield from (f"{crate}: no {clause} of {name}" for clause in clauses if clause not in functions.get(name, ()))
+            there = functions.get(name, ())
+            yield from (f"{crate}: no {clause} of {name}" for clause in clauses if clause not in there)
 
 
 def untold(page):
@@ -82,7 +83,8 @@ def untold(page):
             named.setdefault(crate, {}).setdefault(name, set()).update(clauses or [ALL])
     for crate, told in named.items():
         functions, _ = declared(crate)
-        yield from (f"{crate}: {name} isn't named" for name in exported(crate) if name in functions and name not in told)
+        given = [name for name in exported(crate) if name in functions]
+        yield from (f"{crate}: {name} isn't named" for name in given if name not in told)
         for name, clauses in told.items():
             left = set() if ALL in clauses else functions.get(name, set()) - clauses
             yield from (f"{crate}: {clause} of {name} isn't named" for clause in sorted(left))

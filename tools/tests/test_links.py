@@ -21,7 +21,7 @@ def headings(page):
 
 
 def anchors(titles):
-    """The names of headings as GitHub gives them: small letters, digits and hyphens; a second one alike ends with -1."""
+    """The names of headings as GitHub gives them: small letters, digits and hyphens; a second alike ends with -1."""
     names, seen = set(), {}
     for title in titles:
         shown = re.sub(r"\[([^\]]*)\]\([^)]*\)", r"\1", title)
@@ -54,7 +54,8 @@ class TestLinks:
 
     def test_every_page_stands_in_the_list_of_pages(self):
         listed = {(TOP / "docs" / link).resolve() for link in links(TOP / "docs/README.md")}
-        assert [] == [page.name for page in (TOP / "docs").glob("*.md") if page.name != "README.md" and page not in listed]
+        there = set((TOP / "docs").glob("*.md")) - {TOP / "docs/README.md"}
+        assert set() == {page.name for page in there - listed}
 
 
 class TestGuide:
