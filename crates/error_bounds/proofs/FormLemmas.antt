@@ -29,7 +29,7 @@ from_between lo hi n h =
 
 -- ---- lists whose members are all of one kind
 
-members_long : {V : Type 0} (kind : Data → Option V) (vs : List Value) (ns : List V)
+pub members_long : {V : Type 0} (kind : Data → Option V) (vs : List Value) (ns : List V)
     → all_members kind (items_view vs) ≡ Some ns → length ns ≡ length vs
 members_long kind [] ns h = rw (← same_Some _ _ h) refl
 members_long {V} kind (v ∷ vs) ns h = longer (kind (view v)) (all_members kind (items_view vs)) ns h (members_long kind vs)

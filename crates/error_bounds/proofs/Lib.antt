@@ -1,3 +1,4 @@
+pub mod DirectionLemmas
 pub mod FormLemmas
 pub mod SettingsLemmas
 pub mod KeyLemmas

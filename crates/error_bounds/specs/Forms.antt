@@ -1,6 +1,6 @@
 -- What a value in the tree of the text has to be: first its kind, then what is read from it.
 -- Lengths stand in mm in the text and are read in um.
-use Rattle.std.specs.Prelude.{ℕ, ℤ, pos, neg_ℤ, ◌*ℤ◌, unsigned_abs, nat_eq, nat_le, Bool, true, false, ◌&&◌, if◌then◌else◌, codes, List, [], ◌∷◌, Option, None, Some, option_map, option_and_then, Result, Ok, Err}
+use Rattle.std.specs.Prelude.{ℕ, ℤ, pos, neg_ℤ, ◌*ℤ◌, unsigned_abs, nat_eq, nat_le, Bool, true, false, not, ◌&&◌, ◌||◌, if◌then◌else◌, codes, List, [], ◌∷◌, length, Option, None, Some, option_map, option_and_then, Result, Ok, Err}
 use lib.Pointwise.{pointwise}
 use lib.Signed.{le_z}
 use Rattle.grid_model.specs.Amounts.{square}
@@ -56,6 +56,11 @@ all_members kind (item d more) =
 
 abbrev pub as_list_of : {V : Type 0} → (Data → Option V) → Data → Option (List V)
 as_list_of kind d = option_and_then (all_members kind) (as_array d)
+
+-- the directions of bounds: so many azimuths, or these vectors
+pub data DirectionsValue : Type 0 where
+  Azimuths : (count : ℕ) → DirectionsValue
+  Vectors : (vectors : List (ℤ × ℤ × ℤ)) → DirectionsValue
 
 -- ---- one definition a form
 
@@ -158,3 +163,46 @@ galileo_codes_for mode.Dual message codes = dual_codes (band_of message) codes
 
 abbrev pub galileo_list : Mode → Message → Data → Result Signal Fault
 galileo_list which message d = of_kind (as_list_of as_str d) (galileo_codes_for which message)
+
+-- ---- directions of bounds
+
+-- azimuths are four, eight or sixteen
+abbrev pub is_count : ℤ → Bool
+is_count n =
+    is_from (pos 4) (pos 4) n || (is_from (pos 8) (pos 8) n || is_from (pos 16) (pos 16) n)
+
+-- three numbers within 10^6 that aren't all 0
+abbrev pub is_vector : ℤ → ℤ → ℤ → Bool
+is_vector x y z = each (is_within 1000000) x y z && not (each (is_within 0) x y z)
+
+abbrev pub vector_of : List ℤ → Option (ℤ × ℤ × ℤ)
+vector_of (x ∷ y ∷ z ∷ []) = if is_vector x y z then Some (x, y, z) else None
+vector_of _ = None
+
+abbrev pub as_integers : Data → Option (List ℤ)
+as_integers d = as_list_of as_integer d
+
+abbrev pub as_vector : Data → Option (ℤ × ℤ × ℤ)
+as_vector d = option_and_then vector_of (as_integers d)
+
+-- 1 to 64 of them
+abbrev pub is_few : ℕ → Bool
+is_few n = nat_le 1 n && nat_le n 64
+
+abbrev pub some_vectors : Option (List (ℤ × ℤ × ℤ)) → Result DirectionsValue Fault
+some_vectors None = Err Outside
+some_vectors (Some vs) = right (is_few (length vs)) (Vectors vs)
+
+-- so many azimuths, or a list of lists of whole numbers that are such vectors
+abbrev pub directions : Data → Result DirectionsValue Fault
+directions d =
+    or_form (as_integer d) (λ n. right (is_count n) (Azimuths (unsigned_abs n)))
+    (of_kind (as_list_of as_integers d) (λ lists. some_vectors (as_list_of as_vector d)))
+
+-- the same, where pairs of rows are asked for too
+abbrev pub only_if : {V : Type 0} → Bool → Result V Fault → Result V Fault
+only_if condition (Ok v) = right condition v
+only_if condition (Err fault) = Err fault
+
+abbrev pub directions_with : Bool → Data → Result DirectionsValue Fault
+directions_with pairs d = only_if pairs (directions d)

@@ -8,7 +8,7 @@ use Rattle.gnss_model.specs.declared.systems.Message.{Message}
 use Rattle.gnss_model.specs.declared.systems.Message.TheVariants.{Fnav, Inav}
 use Rattle.toml.specs.Data.{Data, Members, no_members, get_member, as_table}
 use Rattle.error_bounds.specs.Faults.{Found}
-use Rattle.error_bounds.specs.Forms.{count, length_from, truth, errors, place, ground_place, half_sides, mode_word, code_list, message_word, galileo_list}
+use Rattle.error_bounds.specs.Forms.{count, length_from, truth, errors, place, ground_place, half_sides, mode_word, code_list, message_word, galileo_list, DirectionsValue, directions_with}
 use Rattle.error_bounds.specs.declared.fault.Fault.{Fault}
 use Rattle.error_bounds.specs.declared.fault.Fault.TheVariants.{Missing, WrongKind, Outside}
 use Rattle.error_bounds.specs.declared.signals.Mode.{Mode}
@@ -77,6 +77,11 @@ renew = record { table = codes "search"; name = codes "renew"; form = truth }
 -- whether pairs of rows show boxes empty too; it may be absent
 abbrev pub pairs : Key Bool
 pairs = record { table = codes "search"; name = codes "pairs"; form = truth }
+
+-- along which directions bounds are written, where there are pairs; it may be absent
+abbrev pub directions : Bool → Key DirectionsValue
+directions pairs =
+    record { table = codes "search"; name = codes "directions"; form = directions_with pairs }
 
 abbrev pub signal_mode : Key Mode
 signal_mode = record { table = codes "signal"; name = codes "mode"; form = mode_word }
@@ -232,6 +237,17 @@ or_false (Err fault) = Err fault
 abbrev pub truth_at : Key Bool → Members → Result Bool Fault
 truth_at key tree = or_false (optional_at key tree)
 
+-- directions go by the pairs; where these have a fault of their own, it comes first
+abbrev pub true_in : Result Bool Fault → Bool
+true_in (Ok b) = b
+true_in (Err fault) = false
+
+abbrev pub directions_key : Members → Key DirectionsValue
+directions_key tree = directions (true_in (truth_at pairs tree))
+
+abbrev pub directions_tests : Members → List Test
+directions_tests tree = test_optional_at (directions_key tree) tree ∷ []
+
 abbrev pub bounds_tests : Members → List Test
 bounds_tests tree =
     test receiver tree ∷ test orbit_clock tree ∷ test ionosphere tree ∷ test troposphere tree
@@ -342,12 +358,13 @@ satellite_tests tree = satellite_tests_in (has_galileo tree) (satellites tree)
 abbrev pub tests : Members → List Test
 tests tree =
     search_tests tree
+    ++ (directions_tests tree
     ++ (signal_tests tree
     ++ (bounds_tests tree
     ++ (galileo_tests tree
     ++ (motion_tests tree
     ++ (station_tests tree
-    ++ satellite_tests tree)))))
+    ++ satellite_tests tree))))))
 
 -- the first of them that finds a fault
 abbrev pub first_or : Option Fault → List ℕ → Option Found → Option Found

@@ -8,7 +8,7 @@ use Rattle.toml.specs.Data.{Data, Members, no_members, member, get_member, as_ta
 use Rattle.gnss_model.specs.declared.systems.Message.TheVariants.{Fnav}
 use Rattle.error_bounds.specs.declared.signals.Mode.TheVariants.{Dual}
 use Rattle.error_bounds.specs.Forms.{is_text}
-use Rattle.error_bounds.specs.Keys.{Test, dotted, has_galileo, galileo_message, galileo_keys, printed, search_tests, signal_tests, bounds_tests, motion_tests, station_keys}
+use Rattle.error_bounds.specs.Keys.{Test, dotted, has_galileo, galileo_message, galileo_keys, printed, search_tests, directions_tests, signal_tests, bounds_tests, motion_tests, station_keys}
 
 -- the members with a name that isn't known, each as its name is printed
 abbrev pub strangers : (List ℕ → Bool) → (List ℕ → List ℕ) → Members → List (List ℕ)
@@ -58,11 +58,15 @@ abbrev pub galileo_names : Members → List Test
 galileo_names tree =
     record { key = printed galileo_message; fault = None } ∷ galileo_keys Dual Fnav tree
 
+-- those in the table of the search
+abbrev pub search_names : Members → List Test
+search_names tree = search_tests tree ++ directions_tests tree
+
 -- all names in a tree that aren't known
 abbrev pub unknown : Members → List (List ℕ)
 unknown tree =
     strangers is_table (λ name. name) tree
-    ++ (strangers_among (codes "search") (search_tests tree) tree
+    ++ (strangers_among (codes "search") (search_names tree) tree
     ++ (strangers_among (codes "signal") (signal_tests tree) tree
     ++ (strangers_among (codes "bounds") (bounds_tests tree) tree
     ++ (strangers_among (codes "galileo") (galileo_names tree) tree

@@ -19,7 +19,11 @@ use Rattle.error_bounds.specs.Texts.{GalileoValue, StationValue, SettingsValue, 
 use Rattle.error_bounds.specs.declared.fault.Fault.{Fault}
 use Rattle.error_bounds.specs.declared.fault.Fault.TheVariants.{Unknown}
 use Rattle.error_bounds.specs.declared.search.Search.{Search}
-use Rattle.error_bounds.specs.Forms.{as_list_of, of_kind, three}
+use Rattle.error_bounds.specs.Forms.{as_list_of, of_kind, three, DirectionsValue, Azimuths, Vectors}
+use Rattle.bound_directions.specs.Directions.{azimuth_count}
+use Rattle.bound_directions.specs.declared.direction.Direction.{Direction}
+use Rattle.bound_directions.specs.declared.directions.Directions.{Directions}
+use Rattle.bound_directions.specs.declared.directions.Directions.TheVariants as by
 use Rattle.toml.specs.Data.{Data, Members, as_integer}
 use Rattle.toml.specs.View.{view}
 use Rattle.toml.specs.declared.value.Value.{Value}
@@ -53,6 +57,14 @@ galileo_use_of (Some galileo) = Some (record { message = galileo.message; signal
 abbrev pub station_value : DeclaredStation → StationValue
 station_value s = record { place = s.place; age = s.age }
 
+-- directions of bounds, as a plain value
+abbrev pub components : Direction → ℤ × ℤ × ℤ
+components d = (d.x, d.y, d.z)
+
+abbrev pub directions_value : Directions → DirectionsValue
+directions_value (by.Azimuths named) = Azimuths (azimuth_count named)
+directions_value (by.Vectors given) = Vectors (map components given.items)
+
 -- settings as a plain value
 abbrev pub value_of_settings : Settings → SettingsValue
 value_of_settings s = record {
@@ -64,6 +76,7 @@ value_of_settings s = record {
   max_age = s.max_age;
   renew = s.renew;
   pairs = s.rules.pairs;
+  directions = option_map directions_value s.directions;
   signal = s.signal;
   common = ends s.common;
   extra = with_ends s.extra.items;
@@ -115,6 +128,11 @@ AnswersOptional reads table name tree (Err told) =
     (fault : Fault) × Tells (record { fault = fault; key = dotted table name }) told
     × ((if_there (data_at table name tree) ≡ Err fault)
     ⊎ ((d : Data) × (if_there (data_at table name tree) ≡ Ok (Some d)) × reads d (Err fault)))
+
+-- the directions that are read, as a plain value
+abbrev pub directions_in : Result Directions Fault → Result DirectionsValue Fault
+directions_in (Ok given) = Ok (directions_value given)
+directions_in (Err fault) = Err fault
 
 -- the span that is read, as its ends
 abbrev pub ends_in : Result Span Fault → Result (ℤ × ℤ) Fault

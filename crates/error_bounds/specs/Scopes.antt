@@ -11,7 +11,7 @@ knows scope.Root name = is_table name
 knows scope.Search name =
     list_any (is_text name)
     (codes "centre" ∷ codes "half" ∷ codes "outliers" ∷ codes "bisections" ∷ codes "width"
-    ∷ codes "max_age" ∷ codes "renew" ∷ codes "pairs" ∷ [])
+    ∷ codes "max_age" ∷ codes "renew" ∷ codes "pairs" ∷ codes "directions" ∷ [])
 knows scope.Signal name = list_any (is_text name) (codes "mode" ∷ codes "codes" ∷ [])
 knows scope.Bounds name =
     list_any (is_text name)

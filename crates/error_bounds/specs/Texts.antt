@@ -8,6 +8,7 @@ use Rattle.gnss_model.specs.declared.systems.Message.{Message}
 use Rattle.toml.specs.Data.{Members, get_member}
 use Rattle.toml.specs.Parse.{parse_document}
 use Rattle.error_bounds.specs.Faults.{Found}
+use Rattle.error_bounds.specs.Forms.{DirectionsValue}
 use Rattle.error_bounds.specs.Keys as key
 use Rattle.error_bounds.specs.Names.{unknown, IsFirstName}
 use Rattle.error_bounds.specs.declared.fault.Fault.{Fault}
@@ -35,6 +36,7 @@ pub record SettingsValue : Type 0 where
   pub max_age : ℕ
   pub renew : Bool
   pub pairs : Bool
+  pub directions : Option DirectionsValue
   pub signal : Signal
   pub common : ℤ × ℤ
   pub extra : List (Sat × (ℤ × ℤ))
@@ -87,6 +89,7 @@ pub record IsValue (tree : Members) (v : SettingsValue) : Type 0 where
   pub max_age : key.value_of key.max_age tree ≡ Ok v.max_age
   pub renew : key.truth_at key.renew tree ≡ Ok v.renew
   pub pairs : key.truth_at key.pairs tree ≡ Ok v.pairs
+  pub directions : key.optional_at (key.directions_key tree) tree ≡ Ok v.directions
   pub signal : key.value_of (key.codes_key tree) tree ≡ Ok v.signal
   pub receiver : ℤ × ℤ
   pub is_receiver : key.value_of key.receiver tree ≡ Ok receiver

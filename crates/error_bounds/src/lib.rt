@@ -3,6 +3,8 @@
 #![tactic(auto)]
 
 mod bounds;
+mod directions;
+mod directions_key;
 mod fault;
 mod form;
 mod galileo;

@@ -88,6 +88,7 @@ fn is_search_key(name: &str) -> bool
         || name == "max_age"
         || name == "renew"
         || name == "pairs"
+        || name == "directions"
 }
 
 /// Whether a name is that of a key of `bounds`.

@@ -109,7 +109,7 @@ fn header(text: &str) -> Result<Centre, Fault>
 }
 
 /// Three whole numbers.
-fn three(value: &Value) -> Result<(i64, i64, i64), Fault>
+pub fn three(value: &Value) -> Result<(i64, i64, i64), Fault>
     ensures { AreThree (view value.now) result }
 {
     let Some(items) = value.as_array() else {

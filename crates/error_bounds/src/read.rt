@@ -6,6 +6,7 @@ ghost use Rattle.error_bounds.specs.Faults.{Found};
 ghost use Rattle.error_bounds.specs.Reading.{value_of_settings, IsTreeOf, RefusesTree, RefusesFirst, GivesSettings, GivesFault};
 ghost use Rattle.error_bounds.specs.Texts.{SettingsValue, IsSettings, IsFirstFault};
 
+use crate::directions_key::read_directions;
 use crate::fault::{Fault, SettingsError, SettingsFault};
 use crate::galileo_table::read_galileo;
 use crate::motion_table::read_motion;
@@ -23,6 +24,7 @@ fn read_tree(alloc: Global, tree: &Table) -> Result<Settings, SettingsError>
     ensures fault { IfErr result (RefusesTree (table_view tree.now)) }
 {
     let search = read_search(tree)?;
+    let directions = read_directions(tree, search.rules.pairs)?;
     let (mode, signal) = read_signal(tree)?;
     let bounds = read_bounds(tree)?;
     let galileo = read_galileo(tree, mode)?;
@@ -36,6 +38,7 @@ fn read_tree(alloc: Global, tree: &Table) -> Result<Settings, SettingsError>
         rules: search.rules,
         max_age: search.max_age,
         renew: search.renew,
+        directions,
         signal,
         common: bounds.common,
         extra,

@@ -9,6 +9,7 @@ use crate::bounds::sum;
 use crate::galileo::Galileo;
 use crate::search_box::box_around;
 use crate::station::DeclaredStation;
+use bound_directions::Directions;
 use gnss_model::{Delays, GalileoUse, Sat, Signal};
 use grid_model::{Box3, Pos, Span};
 use sat_model::Rules;
@@ -34,6 +35,8 @@ pub struct Settings {
     pub max_age: u32,
     /// Whether rows are renewed for smaller boxes among the steps of an epoch.
     pub renew: bool,
+    /// Along which directions a log has certified bounds, where it has them. They ask for pairs of rows.
+    pub directions: Option<Directions>,
     pub signal: Signal,
     /// The sum of the four spans declared for every satellite, each within 1 km.
     pub common: Span,
@@ -53,6 +56,7 @@ pub struct Settings {
     pub ghost half_within: { AreHalfSides half },
     pub ghost some_age: { 1 ≤ max_age },
     pub ghost short_age: { max_age ≤ 14400 },
+    pub ghost with_pairs: { ForSome directions (λ given. rules.pairs ≡ true) },
     pub ghost codes: { are_codes signal ≡ true },
     pub ghost common_within: { IsSumOfFour common },
     pub ghost extra_within: { AreDeclared extra.items },

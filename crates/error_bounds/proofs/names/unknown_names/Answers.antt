@@ -1,7 +1,7 @@
 use Rattle.std.proofs.Common.{codes}
 use Rattle.toml.specs.View.{table_view}
-use Rattle.error_bounds.specs.Keys.{has_galileo, search_tests, signal_tests, bounds_tests, motion_tests, station_keys}
-use Rattle.error_bounds.specs.Names.{galileo_names, strangers, strangers_among, strangers_at, is_table, is_satellite}
+use Rattle.error_bounds.specs.Keys.{has_galileo, signal_tests, bounds_tests, motion_tests, station_keys}
+use Rattle.error_bounds.specs.Names.{search_names, galileo_names, strangers, strangers_among, strangers_at, is_table, is_satellite}
 use Rattle.error_bounds.proofs.NameLemmas.{all_added}
 use Rattle.error_bounds.proofs.names.unknown_names.Goals as goal
 
@@ -10,7 +10,7 @@ returns c =
     let tree = table_view c.args.tree.now in
     all_added
     (strangers is_table (λ name. name) tree)
-    (strangers_among (codes "search") (search_tests tree) tree)
+    (strangers_among (codes "search") (search_names tree) tree)
     (strangers_among (codes "signal") (signal_tests tree) tree)
     (strangers_among (codes "bounds") (bounds_tests tree) tree)
     (strangers_among (codes "galileo") (galileo_names tree) tree)
