@@ -50,6 +50,7 @@ settings_read text x y z near utf8 parsed = record {
     max_age = refl;
     renew = refl;
     pairs = refl;
+    directions = refl;
     signal = refl;
     receiver = (neg_ℤ (pos 2500000), pos 2500000);
     is_receiver = refl;

@@ -60,6 +60,7 @@ settings_of x y z = record {
   max_age = 7200;
   renew = false;
   pairs = false;
+  directions = None;
   signal = Single (codes "C1C");
   common = (neg_ℤ (pos 2500000), pos 2500000);
   extra = [];
