@@ -9,7 +9,7 @@ from made_logs import EXAMPLES, HEAD, PAVED, RECORDED, TOP, WITHIN, ended, epoch
 
 from gpscover import bounded, certified, export, integrity, known, page, region, row_sums, summary
 from gpscover.bound_search import bounds_over
-from gpscover.log import Bound, RowSum, Term, epochs
+from gpscover.log import Bound, Box, RowSum, Term, epochs
 
 LOG = TOP / "crates/gpscover/data/receiver.log"
 BOUNDED_HEAD = HEAD.replace("gpscover 1", "gpscover 4")
@@ -40,6 +40,25 @@ ROUND = [
 ]
 ROUND_TEXT = WITHIN + "".join(bound_text(it.direction, it.most) for it in ROUND)
 FLAT = {(9, -11), (9, 12), (18, 12), (31, -1), (31, -11)}
+
+
+# Boxes, and some of sixteen azimuths and up at their middles: a table that the program's directions are tested by, too.
+TABLE = TOP / "crates/number_tests/src/direction_vectors.rt"
+PLACES = 0, 1, 5, 4, 16
+
+
+def test_directions_are_those_of_the_table():
+    rows = [
+        line.rstrip('\\n";').split() for line in TABLE.read_text().splitlines() if line[:1] in "-0123456789" and line
+    ]
+    assert len(rows) == 20
+    for row in rows:
+        search, *numbers = Box(*map(int, row[:6])), *map(int, row[6:])
+        found = bounded.directions(search, 16)
+        assert [found[place] for place in PLACES] == list(zip(numbers[::3], numbers[1::3], numbers[2::3]))
+        assert found[8:16] == [bounded.negative(way) for way in found[:8]] and found[17] == bounded.negative(found[16])
+        assert bounded.directions(search, 4) == found[:16:4] + found[16:]
+        assert bounded.directions(search, 8) == found[:16:2] + found[16:]
 
 
 class TestCommand:

@@ -10,6 +10,7 @@ from gpscover.settings import Bounds, Galileo, Search, Settings, SettingsError, 
 LENGTH = st.integers(-(10**6), 10**6)
 PAIR = st.tuples(LENGTH, LENGTH).map(lambda ends: (min(ends), max(ends)))
 THREE = st.tuples(LENGTH, LENGTH, LENGTH)
+DIRECTIONS = st.one_of(st.sampled_from([4, 8, 16]), st.lists(THREE, min_size=1, max_size=64).map(tuple))
 CODES = st.sampled_from([("C1C",), ("C1C", "C2W")])
 SEARCHES = st.builds(
     Search,
@@ -18,6 +19,7 @@ SEARCHES = st.builds(
     bisections=st.integers(0, 200_000),
     centre=st.one_of(st.just("header"), THREE),
     renew=st.one_of(st.none(), st.booleans()),
+    directions=st.one_of(st.none(), DIRECTIONS),
 )
 BOUNDS = st.builds(Bounds, receiver=PAIR, orbit_clock=PAIR, ionosphere=PAIR, troposphere=PAIR, zenith=st.none())
 SETTINGS = st.builds(
@@ -57,6 +59,7 @@ def test_the_example_s():
         "[search]\nhalf = 1\n[signal]\n[bounds]\n[station]\nage = 30\n",
         "[search]\nhalf = nan\n[signal]\n[bounds]\n",
         "[search]\nhalf = {}\n[signal]\n[bounds]\n",
+        "[search]\nhalf = 1\noutliers = 1\nbisections = 1\ndirections = [[[1]]]\n[signal]\n[bounds]\n",
         "[search]\nhalf = 1979-05-27\n[signal]\n[bounds]\n",
     ),
 )

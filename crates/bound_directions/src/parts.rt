@@ -8,6 +8,11 @@ use grid_model::root_u128;
 /// Of a unit's length.
 pub(crate) const BILLION: i64 = 1_000_000_000;
 
+/// Lengths are taken in thousandths, so that short ones are lengths too.
+const FINER: i64 = 1_000;
+
+const FINER_SQUARED: u128 = 1_000_000;
+
 /// The greatest amount of a direction's component.
 const MILLION: i64 = 1_000_000;
 
@@ -23,7 +28,7 @@ impl Unit {
     /// The unit vector along a vector, whose parts are 0 where that has no length.
     pub(crate) fn along(x: i64, y: i64, z: i64) -> Unit {
         let squares = square(x).wrapping_add(square(y)).wrapping_add(square(z));
-        let length = root_u128(squares);
+        let length = root_u128(squares.wrapping_mul(FINER_SQUARED));
         Unit {
             x: part(x, length),
             y: part(y, length),
@@ -69,9 +74,9 @@ fn square(a: i64) -> u128 {
     amount.wrapping_mul(amount)
 }
 
-/// A length over another, in billionths.
+/// A number over a length in thousandths, in billionths.
 fn part(a: i64, length: u64) -> i64 {
-    let part = nearest(product(a, BILLION), i128::from(length));
+    let part = nearest(product(a, FINER * BILLION), i128::from(length));
     i64::try_from(part).unwrap_or(0)
 }
 

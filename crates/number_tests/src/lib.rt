@@ -1,8 +1,12 @@
-//! Tests alone: decimals of files, intervals, and sines and cosines of angles.
+//! Tests alone: decimals of files, intervals, sines and cosines of angles, and directions around a box.
 #![tactic(auto)]
 
 #[cfg(test)]
 mod decimals;
+#[cfg(test)]
+mod direction_vectors;
+#[cfg(test)]
+mod directions;
 #[cfg(test)]
 mod intervals;
 #[cfg(test)]

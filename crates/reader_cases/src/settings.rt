@@ -2,6 +2,7 @@
 
 use crate::fields::Fields;
 use crate::inputs::file;
+use bound_directions::{Direction, Directions};
 use error_bounds::{Settings, SettingsError, read_settings};
 use gnss_model::Sat;
 use grid_model::Pos;
@@ -28,6 +29,29 @@ pub fn print_station(rt: &HostRuntime, fields: Fields<'_>) -> io::Result<()> {
         Ok(settings) => println!(rt; "{:?}", settings.station),
         Err(error) => print_error(rt, &error),
     }
+}
+
+/// Prints along which directions a log by the settings of a file has bounds, a vector a line, or the
+/// first fault of the file.
+pub fn print_directions(rt: &HostRuntime, fields: Fields<'_>) -> io::Result<()> {
+    let settings = match read_settings(rt.alloc(), &file(rt, fields)?) {
+        Ok(settings) => settings,
+        Err(error) => return print_error(rt, &error),
+    };
+    match &settings.directions {
+        Some(Directions::Azimuths(azimuths)) => println!(rt; "{azimuths:?}"),
+        Some(Directions::Vectors(vectors)) => print_vectors(rt, vectors),
+        None => println!(rt; "none"),
+    }
+}
+
+/// Prints how many vectors there are, and each of them.
+fn print_vectors(rt: &HostRuntime, vectors: &[Direction]) -> io::Result<()> {
+    println!(rt; "vectors {}", vectors.len())?;
+    for vector in vectors {
+        println!(rt; "{vector:?}")?;
+    }
+    Ok(())
 }
 
 /// Prints the number and the key of a fault.

@@ -20,7 +20,7 @@ from collections.abc import Iterator, Sequence
 from gpscover.bound_search import bounds_over
 from gpscover.command import Command, whole_file
 from gpscover.errors import Error
-from gpscover.geodesy import Frame
+from gpscover.geodesy import cross, whole_product
 from gpscover.log import HEADS, Bound, Box, Epoch, PathLike, Row, epochs, open_text
 from gpscover.region import hull_of
 from gpscover.row_sums import Whole
@@ -28,11 +28,29 @@ from gpscover.row_sums import Whole
 COUNTS = (4, 8, 16)  # of azimuths
 USUAL = 8
 PARTS = 10**6  # of the length of a direction
+BILLION = 10**9  # parts of the length of a unit vector
+FINER = 1000  # in whose parts lengths are taken, so that short ones are lengths too
+STRETCH = 1_006_739_496_742  # 10^12 times what z is times to be along the normal of the ellipsoid: 1 / (1 - e^2)
+# Of half of sixteen azimuths, as angles from east; the sine of one is the cosine of that which is four places from it.
+COSINES = BILLION, 923_879_533, 707_106_781, 382_683_432, 0, -382_683_432, -707_106_781, -923_879_533
 
 
-def in_parts(vector: Sequence[float]) -> Whole:
-    """A unit vector in millionths."""
-    x, y, z = (round(PARTS * part) for part in vector)
+def nearest(a: int, b: int) -> int:
+    """a / b to the nearest whole number, halves upward; 0 where b is 0."""
+    return (2 * a + b) // (2 * b) if b else 0
+
+
+def unit(vector: Sequence[int]) -> Whole:
+    """The unit vector along a vector, in billionths."""
+    length = math.isqrt(whole_product(vector, vector) * FINER**2)
+    x, y, z = (nearest(FINER * BILLION * part, length) for part in vector)
+    return x, y, z
+
+
+def mixed(cosine: int, one: Whole, sine: int, other: Whole) -> Whole:
+    """So many billionths of one unit vector and of another, in millionths."""
+    parts = (nearest(cosine * a + sine * b, BILLION**2 // PARTS) for a, b in zip(one, other))
+    x, y, z = (max(-PARTS, min(PARTS, part)) for part in parts)
     return x, y, z
 
 
@@ -42,12 +60,22 @@ def negative(way: Whole) -> Whole:
     return -x, -y, -z
 
 
+def axes(search: Box) -> tuple[Whole, Whole, Whole]:
+    """East, north and up at the middle of a search box, in billionths: up is along the normal of the ellipsoid for a middle at
+    height 0, and on the axis of the earth east is along y."""
+    x, y, z = (low + high for low, high in zip(search.low, search.high))
+    east = unit((-y, x, 0) if x or y else (0, 1, 0))
+    up = unit((x, y, z * STRETCH // 10**12))
+    x, y, z = (nearest(part, BILLION) for part in cross(up, east))
+    return east, (x, y, z), up
+
+
 def directions(search: Box, count: int) -> list[Whole]:
     """So many azimuths, evenly from east over north, and up and down, at the middle of a search box; in millionths."""
-    east, north, up = Frame.at(search.centre).axes
-    turns = [2 * math.pi * k / count for k in range(count // 2)]
-    half = [in_parts([math.cos(turn) * e + math.sin(turn) * n for e, n in zip(east, north)]) for turn in turns]
-    return [*half, *map(negative, half), in_parts(up), negative(in_parts(up))]
+    east, north, above = axes(search)
+    half = [mixed(COSINES[k], east, COSINES[abs(k - 4)], north) for k in range(0, 8, 16 // count)]
+    up = mixed(BILLION, above, 0, above)
+    return [*half, *map(negative, half), up, negative(up)]
 
 
 def lies_in(box: Box, other: Box) -> bool:

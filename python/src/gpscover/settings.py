@@ -17,6 +17,7 @@ __all__ = ["Bounds", "Galileo", "Search", "Settings", "SettingsError", "Signal",
 
 Pair = tuple[int, int]  # [low, high] in mm
 Three = tuple[int, int, int]
+Vectors = tuple[Three, ...]
 
 
 class SettingsError(Error):
@@ -35,6 +36,7 @@ class Search:
     max_age: int = 7200  # in s: of an ephemeris
     renew: bool | None = None  # None: the key is absent
     pairs: bool | None = None
+    directions: int | Vectors | None = None  # of certified bounds: so many azimuths, up and down, or these vectors
 
 
 @dataclass(frozen=True)
@@ -161,10 +163,17 @@ def whole(value: Any) -> int:
     return value
 
 
+def member(value: Any) -> Any:
+    """A member of a list: a text, a whole number, or a vector of them. TypeError where it is none of these."""
+    if isinstance(value, list):
+        return tuple(map(whole, value))
+    return value if isinstance(value, str) else whole(value)
+
+
 def frozen(value: Any) -> Any:
     """A value of TOML with tuples for its lists. TypeError where it is none that settings have."""
     if isinstance(value, list):
-        return tuple(it if isinstance(it, str) else whole(it) for it in value)
+        return tuple(map(member, value))
     return value if isinstance(value, (str, bool)) else whole(value)
 
 
