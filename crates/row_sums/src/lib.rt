@@ -11,10 +11,12 @@
 
 mod adding;
 mod axes;
+mod choosing;
 mod covered;
 mod disjoint;
 mod form_sum;
 mod one_sum;
+mod row_sets;
 mod shown;
 mod totals;
 
