@@ -36,10 +36,12 @@ LINKS = (
     (
         "The program's top call",
         "`main` calls `run` with the words of the command line. This clause of its contract speaks of everything that is seen"
-        " before and after the call, by the command that the words ask for.",
+        " before and after the call, by the command that the words ask for. `check` is never quiet: of it `ObeysWords` says what"
+        " `Obeys` does.",
         (
             ("crates/cover_run/src/top.rt", "runs"),
             ("crates/cover_run/specs/Runs.antt", "Runs"),
+            ("crates/cover_run/specs/Runs.antt", "ObeysWords", "Quietly"),
             ("crates/cover_run/specs/Runs.antt", "Obeys"),
         ),
     ),
@@ -187,7 +189,7 @@ LINKS = (
         "Its premises: the files are told, LOG is by name none of those that are read, `solve` ended with `Done`, and `check`"
         " found the files as `solve` left them, by the same words and limits. Of files that can't tell their bytes nothing is"
         " said here either.",
-        (("crates/cover_run/specs/Accepting.antt", "RunsThen", "AreApart"),),
+        (("crates/cover_run/specs/Accepting.antt", "RunsThen", "RunsQuietlyThen", "AreApart"),),
     ),
     (
         "Renewed rows",

@@ -30,6 +30,32 @@ def log(settings, tmp_path_factory):
     return path
 
 
+def test_no_report_is_wanted_without_progress(settings, log, tmp_path):
+    """The log is the same, and so is what is read off it."""
+    report = gpscover.solve(*FILES, settings, tmp_path / "quiet.log", last=2)
+    assert (tmp_path / "quiet.log").read_bytes() == log.read_bytes()
+    assert (report.epochs, report.lost) == (2, None)
+
+
+def test_the_epoch_in_which_a_track_is_lost(tmp_path):
+    """The last one, where it is searched and keeps no box; in a log of `solve` no track ends."""
+    head, few = "gpscover 1\nrules 1 4 1000\n", "few 3 0 1\n"
+    paved = "epoch {} 0 4\nroot 0 0 0 1 1 1\n{}done 0\n"
+    kept, none = paved.format(1, "edge 0 0 0\n"), paved.format(2, "out 0\n")
+    for text, epochs, lost in (
+        (head, 0, None),
+        (head + kept, 1, None),
+        (head + kept + none, 2, 2),
+        (head + none, 1, 2),
+        (head + kept + few, 2, None),
+    ):
+        path = tmp_path / "any.log"
+        path.write_text(text, encoding="ascii")
+        for tracked in True, False:
+            report = gpscover.Report(gpscover.open_log(path), tracked)
+            assert (report.epochs, report.lost) == (epochs, lost if tracked else None)
+
+
 def test_a_yes_has_as_many_boxes_as_the_log(settings, log):
     boxes = sum(len(epoch.kept) for epoch in gpscover.open_log(log))
     wanted = gpscover.Verdict(True, boxes)

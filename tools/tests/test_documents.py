@@ -74,7 +74,8 @@ class TestDocuments:
         frames = [frame for _, *passages in headline.LINKS for frames in passages[1::2] for frame in frames]
         paths = {name: path for path, *names in frames for name in names}
         for chain in (
-            "runs Runs Obeys checking TellsAlone Tells",
+            "runs Runs ObeysWords Obeys checking TellsAlone Tells",
+            "ObeysWords Quietly",
             "Obeys RunOf Ends",
             "checking SaysAccepted Accepts IsFileAccepted IsAccepted FileCover BlocksFitCover FitBodyCover FitBounded FitCover",
             "FitCover SomeKeeps Keeps KeepsClock",
@@ -91,7 +92,7 @@ class TestDocuments:
             "station_meaning IsJudgedByBoth LacksStation",
             "AreValues IsBound",
             "meaning_by bound_for",
-            "accepted SolvesThenChecks RunsThen AreApart",
+            "accepted SolvesThenChecks RunsQuietlyThen RunsThen AreApart",
         ):
             names = chain.split()
             for above, below in zip(names, names[1:]):

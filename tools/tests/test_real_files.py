@@ -564,6 +564,14 @@ class TestRealFiles:
                 # What the log holds is the start of the whole one; these logs are one piece, which went out first.
                 self.expect_start("new.log", log)
 
+    def test_a_quiet_run_needs_no_standard_output(self):
+        """It is full, its reader has gone, or it isn't open: the log is whole."""
+        with open("/dev/full", "wb") as full:
+            for way in {"stdout": full}, {"stdout": self.unread_pipe()}, {"preexec_fn": close_output}:
+                for words, log in (["solve", *FILES], SOLVED), (["pave", ROWS], PAVED):
+                    self.expect([*words, "new.log", "--quiet"], 0, b"", b"", **way)
+                    assert self.read("new.log") == log
+
     def test_a_reader_that_has_gone(self):
         for words in (*VERDICTS, ["guard", *FILES, "a.zones", "receiver.log"]):
             self.expect(words, 5, b"", b"out fault\n", stdout=self.unread_pipe())

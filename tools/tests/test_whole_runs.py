@@ -266,6 +266,19 @@ class TestWords(WholeRuns):
         ):
             assert self.done_in(self.folder({}), words.split())[: len(said)] == said
 
+    def test_quiet(self):
+        """`--quiet` stands where an option may, and nothing is printed of a log that is the same."""
+        for words, log, first, last in (
+            ("solve o n s l --quiet", "l", 1, 24), ("solve --quiet o n s l", "l", 1, 24),
+            ("solve o n --quiet s l --from 3", "l", 3, 24), ("solve o n s l --from 3 --quiet --to=7", "l", 3, 7),
+            ("track o n moving l --quiet", "l", 1, 24), ("track o n moving l --to 20 --quiet", "l", 1, 20),
+        ):
+            self.expect(words.split(), self.FILES, DONE, made={log: few_log(first, last)})
+        self.expect("pave r l --quiet".split(), {"r": ROWS}, made={"l": EDGE_LOG})
+        self.expect("pave --quiet r l".split(), {"r": ROWS}, made={"l": EDGE_LOG})
+        # Behind two dashes it is a name.
+        self.expect("solve o n s -- --quiet".split(), self.FILES, DONE, few_report(1, 24), made={"--quiet": few_log(1, 24)})
+
     def test_not_taken(self):
         for words in (
             [], [""], ["judge", "-5"], ["solve", "o", "n", "s", "l", "--from", ""],
@@ -279,7 +292,10 @@ class TestWords(WholeRuns):
                 "retrack o n s l --to 0", "guard o n s l", "guard o n s z l m", "guard o n s z l --track --track",
                 "guard o n s z l --track=true", "guard o n s z l --track=1", "guard o n s z l --track x",
                 "check o n s l --track", "make 7", "make 7 3 9", "make -1 3", "make 07 3", "make 4294967296 3", "make 7 0",
-                "make 7 241",
+                "make 7 241", "solve o n s l --quiet --quiet", "track o n moving l --quiet --from 3 --quiet",
+                "pave r l --quiet --quiet", "solve o n s l --quiet=true", "solve o n s l --quie", "solve o n s l -q",
+                "pave r l --quiet x", "check o n s l --quiet", "retrack o n moving l --quiet", "guard o n s z l --quiet",
+                "judge x --quiet", "make 7 3 --quiet",
             )),
         ):
             self.expect(words, self.FILES | {"x": EDGE_LOG, "r": ROWS}, NO_COMMAND, err=USAGE.decode())
@@ -359,6 +375,12 @@ total in 1 edge 0 out 0 bisections 0
             ("gpscover 1\nrules 8 200000 1000\n", "", ""),
         ):
             self.expect_twice(["pave", "a.rows", "b.log"], {"a.rows": rows}, DONE, report, made={"b.log": rows + steps})
+            self.expect(["pave", "a.rows", "b.log", "--quiet"], {"a.rows": rows}, DONE, made={"b.log": rows + steps})
+
+    def test_what_is_no_rows_is_refused_quietly_too(self):
+        refused = "rows 40 BadLog line 9 kind 2\n"
+        self.expect(["pave", "a.rows", "b.log", "--quiet"], {"a.rows": EDGE_LOG}, REFUSED, err=refused)
+        self.expect(["pave", "c.rows", "b.log", "--quiet"], {"a.rows": ROWS}, READ_FAULT, err="rows fault\n")
 
     def test_what_is_no_rows_is_refused(self):
         bare = "gpscover 1\nrules 0 0 1000000\nepoch 1 0 4\nroot 0 0 0 0 0 0\n"
@@ -391,6 +413,7 @@ class TestMaking(WholeRuns):
         files = ["a.obs", "a.nav", "a.toml", "b.log"]
         log, report = self.written_in(folder, [writer, *files])
         assert log[: len(first)] == first
+        self.expect_in(folder, [writer, "--quiet", *files[:3], "c.log"], DONE, made={"c.log": log})
         assert (count(log, "renew ") > 0) == renewals
         yes = f"yes {count(report, 'in ') + count(report, 'edge ')}\n"
         for words in [checker, *files], ["judge", "b.log"]:
@@ -601,6 +624,8 @@ class TestTracks(WholeRuns):
         end = "total in 0 edge 0 out 1 bisections 0\nlost 2\n"
         assert report[-len(end):] == end
         assert len(lines) == 18
+        # The line belongs to the report, and the log shows it: its last epoch keeps no box.
+        self.expect_in(folder, ["track", *self.FILES, "c.log", "--quiet"], DONE, made={"c.log": "".join(lines)})
         self.expect_in(folder, ["retrack", *self.FILES, "b.log"], DONE, "yes 1\n")
         third, _ = self.written_in(folder, ["solve", *self.FILES, "c.log", "--from", "3"], "c.log")
         longer = [*lines, *third.splitlines(keepends=True)[2:10]]

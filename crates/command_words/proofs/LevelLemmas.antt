@@ -11,7 +11,7 @@ use Rattle.clap.specs.Faults.{level_fault, walk_fault, turn_fault, other_fault, 
 use Rattle.clap.proofs.OnLiterals.{clap_on_literals}
 use Rattle.command_words.specs.Commands.{Command, command_of, command_said}
 use Rattle.command_words.specs.Program.{program, bare, files_form, form_app, with_command}
-use Rattle.command_words.specs.Stated.{begins_with_dash}
+use Rattle.command_words.specs.Stated.{begins_with_dash, IsName}
 
 -- the subcommands as they are built
 abbrev built_sub : ℕ → Shape
@@ -35,9 +35,9 @@ track_shape = built_sub 4
 abbrev pub retrack_shape : Shape
 retrack_shape = built_sub 5
 
--- the commands on files differ in their names alone
-abbrev pub files_shape : Text → Shape
-files_shape name = get_or (built (with_command bare (form_app (files_form name)))).subs 0 (built program).top
+-- the commands on files differ in their names and flags alone
+abbrev pub files_shape : Text → List Text → Shape
+files_shape name flags = get_or (built (with_command bare (form_app (files_form name flags)))).subs 0 (built program).top
 
 abbrev pub guard_shape : Shape
 guard_shape = built_sub 6
@@ -206,6 +206,49 @@ module _ (s : Shape) (position : ℕ) where
   read_more w word id text rest passes is step name =
       more s w (waits w id) word (text ∷ rest) passes is
       ∙ value_more s (waits w id).held id position text rest name step
+
+-- ---- options and flags, one behind another
+
+pub data Item : Type 0 where
+  Reads : (word id text : Text) → Item
+  Flags : (word : Text) → Item
+
+abbrev pub item_words : List Item → List Text
+item_words [] = []
+item_words (Reads word id text ∷ more) = word ∷ text ∷ item_words more
+item_words (Flags word ∷ more) = word ∷ item_words more
+
+-- no option's text begins with a dash
+abbrev pub ArePlainItems : List Item → Type 0
+ArePlainItems [] = Unit {0}
+ArePlainItems (Reads word id text ∷ more) = IsName text × ArePlainItems more
+ArePlainItems (Flags word ∷ more) = ArePlainItems more
+
+module _ (s : Shape) (position : ℕ) where
+  -- the walk behind them
+  abbrev pub run : Walk → List Item → Walk
+  run w [] = w
+  run w (Reads word id text ∷ more) = run (read s position w id text) more
+  run w (Flags word ∷ more) = run (walked s.rules [] w word) more
+
+  -- each has no fault where the walk meets it
+  abbrev pub Passes : Walk → List Item → Type 0
+  Passes w [] = Unit {0}
+  Passes w (Reads word id text ∷ more) =
+      (turn_fault s [] w word ≡ []) × (walked s.rules [] w word ≡ waits s position w id)
+      × (step_fault s position (plain_word s.rules (option id) text (waits s position w id).held).0 (plain_word s.rules (option id) text (waits s position w id).held).1 ≡ [])
+      × Passes (read s position w id text) more
+  Passes w (Flags word ∷ more) = (turn_fault s [] w word ≡ []) × Passes (walked s.rules [] w word) more
+
+  pub items_walked : (w : Walk) (items : List Item) → ArePlainItems items → Passes w items
+      → level_from s w (item_words items) ≡ level_from s (run w items) []
+  items_walked w [] plain passes = refl
+  items_walked w (Reads word id text ∷ more_items) plain passes =
+      read_more s position w word id text (item_words more_items) passes.0 passes.1 passes.2 plain.0
+      ∙ items_walked (read s position w id text) more_items plain.1 passes.3
+  items_walked w (Flags word ∷ more_items) plain passes =
+      more s w (walked s.rules [] w word) word (item_words more_items) passes.0 refl
+      ∙ items_walked (walked s.rules [] w word) more_items plain passes.1
 
 -- ---- a command's name and the words behind it
 

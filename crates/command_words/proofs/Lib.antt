@@ -6,3 +6,5 @@ pub mod NumberLemmas
 pub mod SaidLemmas
 pub mod StatedLemmas
 pub mod GuardLemmas
+pub mod FlagLemmas
+pub mod QuietLemmas

@@ -72,14 +72,21 @@ judge_says words e =
     let k = texts_of judge_shape words (record { set = inl refl; some = inl refl }, tt) e in
     inl (record { rows = rows_after judge_shape.rules [] words; said_is = refl; texts = (k.0 refl, tt) })
 
+pave_set : AllSet pave_shape.rules
+unfolding clap_on_literals
+pave_set = (
+  record { set = inl refl; some = inl refl },
+  (record { set = inl refl; some = inl refl }, (record { set = inr refl; some = inr (λ none. cc) }, tt)),
+)
+
 pave_says : (words : List Text) → level_fault pave_shape [] nothing_held words false [] ≡ []
     → SaysCommand (Some (rows_at pave_shape words))
 unfolding clap_on_literals
 pave_says words e =
-    let k = texts_of pave_shape words (record { set = inl refl; some = inl refl }, (record { set = inl refl; some = inl refl }, tt)) e in
+    let k = texts_of pave_shape words pave_set e in
     inr (inl (record { rows = rows_after pave_shape.rules [] words; said_is = refl; texts = (k.0 refl, (k.1.0 refl, tt)) }))
 
-files_set : AllSet solve_shape.rules
+files_set : AllSet check_shape.rules
 unfolding clap_on_literals
 files_set = (
   record { set = inl refl; some = inl refl },
@@ -98,14 +105,44 @@ files_set = (
   ),
 )
 
-file_texts : (rows : List Row) → Required solve_shape.rules rows → HaveTexts file_ids rows
+file_texts : (rows : List Row) → Required check_shape.rules rows → HaveTexts file_ids rows
 unfolding clap_on_literals
 file_texts rows k = (k.0 refl, (k.1.0 refl, (k.1.1.0 refl, (k.1.1.1.0 refl, tt))))
+
+-- the same with `--quiet`
+quiet_set : AllSet solve_shape.rules
+unfolding clap_on_literals
+quiet_set = (
+  record { set = inl refl; some = inl refl },
+  (
+    record { set = inl refl; some = inl refl },
+    (
+      record { set = inl refl; some = inl refl },
+      (
+        record { set = inl refl; some = inl refl },
+        (
+          record { set = inl refl; some = inl refl },
+          (
+            record { set = inl refl; some = inl refl },
+            (
+              record { set = inl refl; some = inl refl },
+              (record { set = inr refl; some = inr (λ none. cc) }, tt),
+            ),
+          ),
+        ),
+      ),
+    ),
+  ),
+)
+
+quiet_texts : (rows : List Row) → Required solve_shape.rules rows → HaveTexts file_ids rows
+unfolding clap_on_literals
+quiet_texts rows k = (k.0 refl, (k.1.0 refl, (k.1.1.0 refl, (k.1.1.1.0 refl, tt))))
 
 solve_says : (words : List Text) → level_fault solve_shape [] nothing_held words false [] ≡ []
     → SaysCommand (Some (rows_at solve_shape words))
 unfolding clap_on_literals
-solve_says words e = inr (inr (inl (record { rows = rows_after solve_shape.rules [] words; said_is = refl; texts = file_texts (rows_after solve_shape.rules [] words) (texts_of solve_shape words files_set e) })))
+solve_says words e = inr (inr (inl (record { rows = rows_after solve_shape.rules [] words; said_is = refl; texts = quiet_texts (rows_after solve_shape.rules [] words) (texts_of solve_shape words quiet_set e) })))
 
 check_says : (words : List Text) → level_fault check_shape [] nothing_held words false [] ≡ []
     → SaysCommand (Some (rows_at check_shape words))
@@ -115,7 +152,7 @@ check_says words e = inr (inr (inr (inl (record { rows = rows_after check_shape.
 track_says : (words : List Text) → level_fault track_shape [] nothing_held words false [] ≡ []
     → SaysCommand (Some (rows_at track_shape words))
 unfolding clap_on_literals
-track_says words e = inr (inr (inr (inr (inl (record { rows = rows_after track_shape.rules [] words; said_is = refl; texts = file_texts (rows_after track_shape.rules [] words) (texts_of track_shape words files_set e) })))))
+track_says words e = inr (inr (inr (inr (inl (record { rows = rows_after track_shape.rules [] words; said_is = refl; texts = quiet_texts (rows_after track_shape.rules [] words) (texts_of track_shape words quiet_set e) })))))
 
 retrack_says : (words : List Text) → level_fault retrack_shape [] nothing_held words false [] ≡ []
     → SaysCommand (Some (rows_at retrack_shape words))

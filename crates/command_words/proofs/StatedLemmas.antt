@@ -1,14 +1,14 @@
 -- Words of the stated form ask for their command.
-use Rattle.std.proofs.Common.{◌≡◌, ℕ, false, List, [], ◌∷◌, Option, Some, None, codes, refl, ap, ◌∙◌}
+use Rattle.std.proofs.Common.{◌≡◌, ℕ, Bool, true, false, List, [], ◌∷◌, Option, Some, None, codes, refl, ap, ◌∙◌}
 use Rattle.std.specs.Prelude.{option_map, if◌then◌else◌}
 use Rattle.clap.specs.Kinds.{Kinds, or_else}
 use Rattle.clap.specs.Walk.{Text, Walk, idle, to_positional, arg_by_index, nothing_held, is_empty}
 use Rattle.clap.specs.Simple.{Shape}
 use Rattle.clap.proofs.OnLiterals.{clap_on_literals}
 use Rattle.command_words.specs.Numbers.{seed_number, count_number, epoch_number, last_epoch}
-use Rattle.command_words.specs.Commands.{Epochs, Files, Command, Judge, Pave, Solve, Check, Track, Retrack, files_by, files_of, epochs_of, epochs_by, command_by, command_of, make_of}
-use Rattle.command_words.specs.Stated.{begins_with_dash, IsName, IsNameIfGiven, AreNames, Options, Neither, From, To, FromTo, ToFrom, from_text, to_text, file_words, option_words, station_words, JudgeIsTaken, FilesAreTaken, MakeIsTaken}
-use Rattle.command_words.proofs.LevelLemmas.{judge_shape, pave_shape, files_shape, make_shape, Level, level, level_from, level_is, at, name_more, read, read_more, said_of}
+use Rattle.command_words.specs.Commands.{Epochs, Files, Command, Judge, Pave, Check, Retrack, files_by, files_of, epochs_of, epochs_by, command_by, command_of, make_of}
+use Rattle.command_words.specs.Stated.{begins_with_dash, IsName, IsNameIfGiven, AreNames, Options, Neither, From, To, FromTo, ToFrom, from_text, to_text, file_words, option_words, quiet_if, station_words, JudgeIsTaken, PaveIsTaken, FilesAreTaken, MakeIsTaken}
+use Rattle.command_words.proofs.LevelLemmas.{judge_shape, pave_shape, files_shape, make_shape, Item, Flags, Level, level, level_from, level_is, at, items_walked, name_more, read, read_more, run, said_of}
 use Rattle.command_words.proofs.NumberLemmas.{number_plain}
 
 -- the command of a subcommand's level
@@ -46,21 +46,42 @@ module _ (rows log : Text) (r : begins_with_dash rows ≡ false) (l : begins_wit
   abbrev p₁ : Walk
   p₁ = taken pave_shape start 1 rows
 
-  pave_end : said_at (codes "pave") (level_from pave_shape (taken pave_shape p₁ 2 log) []) ≡ Some (Pave rows log)
-  unfolding level_from clap_on_literals
-  pave_end = refl
+  abbrev p₂ : Walk
+  p₂ = taken pave_shape p₁ 2 log
 
-  pave_said : command_of (codes "pave" ∷ rows ∷ log ∷ []) ≡ said_at (codes "pave") (level pave_shape (rows ∷ log ∷ []))
+  abbrev pave_items : Bool → List Item
+  pave_items true = Flags (codes "--quiet") ∷ []
+  pave_items false = []
+
+  pave_flag : (quiet : Bool)
+      → level_from pave_shape p₂ (quiet_if quiet) ≡ level_from pave_shape (run pave_shape 3 p₂ (pave_items quiet)) []
   unfolding clap_on_literals
-  pave_said = refl
+  pave_flag true = items_walked pave_shape 3 p₂ (pave_items true) tt (refl, tt)
+  pave_flag false = refl
 
-  pub pave_taken : command_of (codes "pave" ∷ rows ∷ log ∷ []) ≡ Some (Pave rows log)
-  pave_taken =
-      pave_said
-      ∙ ap (said_at (codes "pave")) (level_is pave_shape (rows ∷ log ∷ [])
-      ∙ name_more pave_shape nothing_held 1 rows (log ∷ []) r refl
-      ∙ name_more pave_shape p₁.held 2 log [] l refl)
-      ∙ pave_end
+  pave_end : (quiet : Bool)
+      → said_at (codes "pave") (level_from pave_shape (run pave_shape 3 p₂ (pave_items quiet)) []) ≡ Some (Pave rows log quiet)
+  unfolding level_from clap_on_literals
+  pave_end true = refl
+  pave_end false = refl
+
+  pave_said : (quiet : Bool)
+      → command_of (codes "pave" ∷ rows ∷ log ∷ quiet_if quiet) ≡ said_at (codes "pave") (level pave_shape (rows ∷ log ∷ quiet_if quiet))
+  unfolding clap_on_literals
+  pave_said true = refl
+  pave_said false = refl
+
+  pave_is : (quiet : Bool) → command_of (codes "pave" ∷ rows ∷ log ∷ quiet_if quiet) ≡ Some (Pave rows log quiet)
+  pave_is quiet =
+      pave_said quiet
+      ∙ ap (said_at (codes "pave")) (level_is pave_shape (rows ∷ log ∷ quiet_if quiet)
+      ∙ name_more pave_shape nothing_held 1 rows (log ∷ quiet_if quiet) r refl
+      ∙ name_more pave_shape p₁.held 2 log (quiet_if quiet) l refl
+      ∙ pave_flag quiet)
+      ∙ pave_end quiet
+
+pub pave_taken : PaveIsTaken
+pave_taken rows log quiet r l = pave_is rows log r l quiet
 
 -- ---- `make SEED EPOCHS`
 
@@ -89,7 +110,7 @@ make_taken seed_text epochs_text seed epochs s e =
     make_is seed_text epochs_text (number_plain 0 4294967295 seed_text seed s) (number_plain 1 240 epochs_text epochs e)
     ∙ ap (λ n. make_of n (count_number epochs_text)) s ∙ ap (make_of (Some seed)) e
 
--- ---- `solve OBS NAV SETTINGS LOG`, the other commands on the same words, and their options
+-- ---- `check OBS NAV SETTINGS LOG`, `retrack` with the same words, and their options
 
 -- the faults of a level on files, and the files that its matches hold
 abbrev FilesSeen : Type 0
@@ -135,7 +156,7 @@ plain_options (ToFrom to from) epochs e =
 
 module _ (name : Text) (f : Files) (n : AreNames f) where
   abbrev s : Shape
-  s = files_shape name
+  s = files_shape name []
 
   abbrev f₁ : Walk
   f₁ = taken s start 1 f.obs
@@ -236,37 +257,19 @@ module _ (name : Text) (f : Files) (n : AreNames f) where
 abbrev files_said : (Files → Command) → FilesSeen → Option Command
 files_said made l = if is_empty (or_else l.0 []) then option_map made l.1 else None
 
-solve_said : (words : List Text)
-    → command_of (codes "solve" ∷ words) ≡ files_said Solve (files_seen (level (files_shape (codes "solve")) words))
-unfolding clap_on_literals
-solve_said words = said_of (codes "solve") words refl refl
-
 check_said : (words : List Text)
-    → command_of (codes "check" ∷ words) ≡ files_said Check (files_seen (level (files_shape (codes "check")) words))
+    → command_of (codes "check" ∷ words) ≡ files_said Check (files_seen (level (files_shape (codes "check") []) words))
 unfolding clap_on_literals
 check_said words = said_of (codes "check") words refl refl
 
-track_said : (words : List Text)
-    → command_of (codes "track" ∷ words) ≡ files_said Track (files_seen (level (files_shape (codes "track")) words))
-unfolding clap_on_literals
-track_said words = said_of (codes "track") words refl refl
-
 retrack_said : (words : List Text)
-    → command_of (codes "retrack" ∷ words) ≡ files_said Retrack (files_seen (level (files_shape (codes "retrack")) words))
+    → command_of (codes "retrack" ∷ words) ≡ files_said Retrack (files_seen (level (files_shape (codes "retrack") []) words))
 unfolding clap_on_literals
 retrack_said words = said_of (codes "retrack") words refl refl
-
-pub solve_taken : FilesAreTaken (codes "solve") Solve
-solve_taken f options names e =
-    solve_said (file_words f options) ∙ ap (files_said Solve) (files_level (codes "solve") f names options (plain_options options f.epochs e) e)
 
 pub check_taken : FilesAreTaken (codes "check") Check
 check_taken f options names e =
     check_said (file_words f options) ∙ ap (files_said Check) (files_level (codes "check") f names options (plain_options options f.epochs e) e)
-
-pub track_taken : FilesAreTaken (codes "track") Track
-track_taken f options names e =
-    track_said (file_words f options) ∙ ap (files_said Track) (files_level (codes "track") f names options (plain_options options f.epochs e) e)
 
 pub retrack_taken : FilesAreTaken (codes "retrack") Retrack
 retrack_taken f options names e =

@@ -23,12 +23,13 @@ pub record Files : Type 0 where
   pub log : Text
   pub epochs : Epochs
 
+-- a quiet one prints no report
 pub data Command : Type 0 where
   Judge : (log : Text) → Command
-  Pave : (rows log : Text) → Command
-  Solve : Files → Command
+  Pave : (rows log : Text) → (quiet : Bool) → Command
+  Solve : Files → (quiet : Bool) → Command
   Check : Files → Command
-  Track : Files → Command
+  Track : Files → (quiet : Bool) → Command
   Retrack : Files → Command
   Guard : Files → (zones : Text) → (tracked : Bool) → Command
   Make : (seed epochs : ℕ) → Command
@@ -40,9 +41,9 @@ abbrev pub judge_of : Option Text → Option Command
 judge_of (Some log) = Some (Judge log)
 judge_of None = None
 
-abbrev pub pave_of : Option Text → Option Text → Option Command
-pave_of (Some rows) (Some log) = Some (Pave rows log)
-pave_of _ _ = None
+abbrev pub pave_of : Option Text → Option Text → Bool → Option Command
+pave_of (Some rows) (Some log) quiet = Some (Pave rows log quiet)
+pave_of _ _ _ = None
 
 -- the defaults are the first and the last number that an epoch can have
 abbrev pub epochs_of : Option ℕ → Option ℕ → Option Epochs
@@ -83,8 +84,12 @@ make_of _ _ = None
 abbrev pub judge_by : List Row → Option Command
 judge_by rows = judge_of (first_of (codes "log") rows)
 
+abbrev pub is_quiet : List Row → Bool
+is_quiet rows = is_said (first_of (codes "quiet") rows)
+
 abbrev pub pave_by : List Row → Option Command
-pave_by rows = pave_of (first_of (codes "rows") rows) (first_of (codes "log") rows)
+pave_by rows =
+    pave_of (first_of (codes "rows") rows) (first_of (codes "log") rows) (is_quiet rows)
 
 abbrev pub files_by : List Row → Option Files
 files_by rows =
@@ -92,6 +97,12 @@ files_by rows =
     (first_of (codes "settings") rows) (first_of (codes "log") rows)
     (epochs_by (first_of (codes "from") rows) (first_of (codes "to") rows))
     (first_of (codes "station") rows)
+
+abbrev pub solve_by : List Row → Option Command
+solve_by rows = option_map (λ files. Solve files (is_quiet rows)) (files_by rows)
+
+abbrev pub track_by : List Row → Option Command
+track_by rows = option_map (λ files. Track files (is_quiet rows)) (files_by rows)
 
 abbrev pub guard_by : List Row → Option Command
 guard_by rows =
@@ -108,9 +119,9 @@ abbrev pub command_by : Text → List Row → Option Command
 command_by name rows =
     if bytes_eq name (codes "judge") then judge_by rows
     else (if bytes_eq name (codes "pave") then pave_by rows
-    else (if bytes_eq name (codes "solve") then option_map Solve (files_by rows)
+    else (if bytes_eq name (codes "solve") then solve_by rows
     else (if bytes_eq name (codes "check") then option_map Check (files_by rows)
-    else (if bytes_eq name (codes "track") then option_map Track (files_by rows)
+    else (if bytes_eq name (codes "track") then track_by rows
     else (if bytes_eq name (codes "retrack") then option_map Retrack (files_by rows)
     else (if bytes_eq name (codes "guard") then guard_by rows
     else (if bytes_eq name (codes "make") then make_by rows else None)))))))

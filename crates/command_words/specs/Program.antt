@@ -33,26 +33,31 @@ form_app f =
 abbrev pub judge_form : Form
 judge_form = record { name = codes "judge"; words = codes "log" ∷ []; options = []; flags = [] }
 
--- `pave ROWS LOG`
+-- `--quiet`, of the commands that write a log and print its report
+abbrev pub quiet_flag : List Text
+quiet_flag = codes "quiet" ∷ []
+
+-- `pave ROWS LOG`, with that flag
 abbrev pub pave_form : Form
 pave_form = record {
   name = codes "pave";
   words = codes "rows" ∷ codes "log" ∷ [];
   options = [];
-  flags = [];
+  flags = quiet_flag;
 }
 
 -- `--from N`, `--to N` and `--station FILE`
 abbrev pub file_options : List Text
 file_options = codes "from" ∷ codes "to" ∷ codes "station" ∷ []
 
--- `solve OBS NAV SETTINGS LOG`, and `check`, `track` and `retrack` with the same words
-abbrev pub files_form : Text → Form
-files_form name = record {
+-- `solve OBS NAV SETTINGS LOG`, and `check`, `track` and `retrack` with the same words, each with
+-- its flags
+abbrev pub files_form : Text → List Text → Form
+files_form name flags = record {
   name = name;
   words = codes "obs" ∷ codes "nav" ∷ codes "settings" ∷ codes "log" ∷ [];
   options = file_options;
-  flags = [];
+  flags = flags;
 }
 
 -- `guard OBS NAV SETTINGS ZONES LOG`, with `--track` too
@@ -74,8 +79,9 @@ make_form = record {
 }
 
 abbrev pub forms : List Form
-forms = judge_form ∷ pave_form ∷ files_form (codes "solve") ∷ files_form (codes "check")
-    ∷ files_form (codes "track") ∷ files_form (codes "retrack") ∷ guard_form ∷ make_form ∷ []
+forms = judge_form ∷ pave_form ∷ files_form (codes "solve") quiet_flag
+    ∷ files_form (codes "check") [] ∷ files_form (codes "track") quiet_flag
+    ∷ files_form (codes "retrack") [] ∷ guard_form ∷ make_form ∷ []
 
 abbrev pub bare : App
 bare = record {

@@ -28,10 +28,10 @@ files_asked f = record {
 
 abbrev pub asked : parsed.Command → Command
 asked (variant.Judge log) = Judge log.now
-asked (variant.Pave rows log) = Pave rows.now log.now
-asked (variant.Solve files) = Solve (files_asked files)
+asked (variant.Pave rows log quiet) = Pave rows.now log.now quiet
+asked (variant.Solve files quiet) = Solve (files_asked files) quiet
 asked (variant.Check files) = Check (files_asked files)
-asked (variant.Track files) = Track (files_asked files)
+asked (variant.Track files quiet) = Track (files_asked files) quiet
 asked (variant.Retrack files) = Retrack (files_asked files)
 asked (variant.Guard files zones tracked) = Guard (files_asked files) zones.now tracked
 asked (variant.Make seed epochs) = Make seed epochs
@@ -42,10 +42,10 @@ IsSelection s = ((1 ≤ s.from) × (s.from ≤ 200000)) × ((1 ≤ s.to) × (s.t
 
 abbrev pub HasRanges : parsed.Command → Type 0
 HasRanges (variant.Judge log) = Unit {0}
-HasRanges (variant.Pave rows log) = Unit {0}
-HasRanges (variant.Solve files) = IsSelection files.selection
+HasRanges (variant.Pave rows log quiet) = Unit {0}
+HasRanges (variant.Solve files quiet) = IsSelection files.selection
 HasRanges (variant.Check files) = IsSelection files.selection
-HasRanges (variant.Track files) = IsSelection files.selection
+HasRanges (variant.Track files quiet) = IsSelection files.selection
 HasRanges (variant.Retrack files) = IsSelection files.selection
 HasRanges (variant.Guard files zones tracked) = IsSelection files.selection
 HasRanges (variant.Make seed epochs) = (1 ≤ epochs) × (epochs ≤ 240)

@@ -54,35 +54,47 @@ abbrev pub file_words : Files → Options → List Text
 file_words f options =
     f.obs ∷ f.nav ∷ f.settings ∷ f.log ∷ station_words f.station (option_words options)
 
--- `--track` among them: nowhere, or before the options, behind the first, or behind them all
+-- a flag among them: nowhere, or before the options, behind the first, or behind them all
 pub data Flag : Type 0 where
   Nowhere : Flag
   Before : Flag
   BehindFirst : Flag
   Behind : Flag
 
-abbrev pub is_tracked : Flag → Bool
-is_tracked Nowhere = false
-is_tracked Before = true
-is_tracked BehindFirst = true
-is_tracked Behind = true
+abbrev pub is_given : Flag → Bool
+is_given Nowhere = false
+is_given Before = true
+is_given BehindFirst = true
+is_given Behind = true
 
-abbrev pub flagged_words : Flag → Options → List Text
-flagged_words Nowhere options = option_words options
-flagged_words Before options = codes "--track" ∷ option_words options
-flagged_words BehindFirst Neither = codes "--track" ∷ []
-flagged_words BehindFirst (From from) = codes "--from" ∷ from ∷ codes "--track" ∷ []
-flagged_words BehindFirst (To to) = codes "--to" ∷ to ∷ codes "--track" ∷ []
-flagged_words BehindFirst (FromTo from to) =
-    codes "--from" ∷ from ∷ codes "--track" ∷ codes "--to" ∷ to ∷ []
-flagged_words BehindFirst (ToFrom to from) =
-    codes "--to" ∷ to ∷ codes "--track" ∷ codes "--from" ∷ from ∷ []
-flagged_words Behind options = option_words options ++ codes "--track" ∷ []
+abbrev pub flagged_words : (word : Text) → Flag → Options → List Text
+flagged_words word Nowhere options = option_words options
+flagged_words word Before options = word ∷ option_words options
+flagged_words word BehindFirst Neither = word ∷ []
+flagged_words word BehindFirst (From from) = codes "--from" ∷ from ∷ word ∷ []
+flagged_words word BehindFirst (To to) = codes "--to" ∷ to ∷ word ∷ []
+flagged_words word BehindFirst (FromTo from to) =
+    codes "--from" ∷ from ∷ word ∷ codes "--to" ∷ to ∷ []
+flagged_words word BehindFirst (ToFrom to from) =
+    codes "--to" ∷ to ∷ word ∷ codes "--from" ∷ from ∷ []
+flagged_words word Behind options = option_words options ++ word ∷ []
 
+-- `--quiet` among the words of files
+abbrev pub quiet_words : Files → Flag → Options → List Text
+quiet_words f flag options =
+    f.obs ∷ f.nav ∷ f.settings ∷ f.log
+    ∷ station_words f.station (flagged_words (codes "--quiet") flag options)
+
+-- `--track` among those of files and zones
 abbrev pub guard_words : Files → Text → Flag → Options → List Text
 guard_words f zones flag options =
     f.obs ∷ f.nav ∷ f.settings ∷ zones ∷ f.log
-    ∷ station_words f.station (flagged_words flag options)
+    ∷ station_words f.station (flagged_words (codes "--track") flag options)
+
+-- `--quiet` behind the words of rows, where it is given
+abbrev pub quiet_if : Bool → List Text
+quiet_if true = codes "--quiet" ∷ []
+quiet_if false = []
 
 abbrev pub IsNameIfGiven : Option Text → Type 0
 IsNameIfGiven None = Unit {0}
@@ -98,8 +110,8 @@ abbrev pub JudgeIsTaken : Type 0
 JudgeIsTaken = (log : Text) → IsName log → command_of (codes "judge" ∷ log ∷ []) ≡ Some (Judge log)
 
 abbrev pub PaveIsTaken : Type 0
-PaveIsTaken = (rows log : Text) → IsName rows → IsName log
-    → command_of (codes "pave" ∷ rows ∷ log ∷ []) ≡ Some (Pave rows log)
+PaveIsTaken = (rows log : Text) (quiet : Bool) → IsName rows → IsName log
+    → command_of (codes "pave" ∷ rows ∷ log ∷ quiet_if quiet) ≡ Some (Pave rows log quiet)
 
 -- the numbers of the options are those of the epochs
 abbrev pub FilesAreTaken : Text → (Files → Command) → Type 0
@@ -107,11 +119,17 @@ FilesAreTaken name asked = (files : Files) (options : Options) → AreNames file
     → epochs_by (from_text options) (to_text options) ≡ Some files.epochs
     → command_of (name ∷ file_words files options) ≡ Some (asked files)
 
+-- the same of a command that may be quiet
+abbrev pub QuietIsTaken : Text → (Files → (quiet : Bool) → Command) → Type 0
+QuietIsTaken name asked = (files : Files) (flag : Flag) (options : Options) → AreNames files
+    → epochs_by (from_text options) (to_text options) ≡ Some files.epochs
+    → command_of (name ∷ quiet_words files flag options) ≡ Some (asked files (is_given flag))
+
 abbrev pub GuardIsTaken : Type 0
 GuardIsTaken = (files : Files) (zones : Text) (flag : Flag) (options : Options) → AreNames files
     → IsName zones → epochs_by (from_text options) (to_text options) ≡ Some files.epochs
     → command_of (codes "guard" ∷ guard_words files zones flag options)
-    ≡ Some (Guard files zones (is_tracked flag))
+    ≡ Some (Guard files zones (is_given flag))
 
 abbrev pub MakeIsTaken : Type 0
 MakeIsTaken = (seed_text epochs_text : Text) (seed epochs : ℕ)

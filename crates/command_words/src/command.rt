@@ -26,17 +26,24 @@ pub enum Command<'a> {
     Judge {
         log: &'a str,
     },
-    /// Pave these rows, and write the log.
+    /// Pave these rows, write the log, and print its report unless it is to be quiet.
     Pave {
         rows: &'a str,
         log: &'a str,
+        quiet: bool,
     },
-    /// Pave the epochs of these files, and write the log.
-    Solve(Files<'a>),
+    /// Pave the epochs of these files, write the log, and print its report unless it is to be quiet.
+    Solve {
+        files: Files<'a>,
+        quiet: bool,
+    },
     /// Check the log against the files.
     Check(Files<'a>),
-    /// Pave the epochs of these files as those of a moving receiver, and write the log.
-    Track(Files<'a>),
+    /// Do what `Solve` does for the epochs of a moving receiver.
+    Track {
+        files: Files<'a>,
+        quiet: bool,
+    },
     /// Check the log of a moving receiver against the files.
     Retrack(Files<'a>),
     /// Check the log as `Check` does, or as `Retrack` where it is that of a track, and tell what it

@@ -3,17 +3,18 @@
 ghost use Rattle.std.specs.Prelude.{codes};
 ghost use Rattle.command_words.specs.Commands.{Solve, Check, Track, Retrack};
 ghost use Rattle.command_words.specs.Stated.{JudgeIsTaken, PaveIsTaken, FilesAreTaken};
-ghost use Rattle.command_words.specs.Stated.{GuardIsTaken, MakeIsTaken, TakenIsCommand};
+ghost use Rattle.command_words.specs.Stated.{QuietIsTaken, GuardIsTaken, MakeIsTaken};
+ghost use Rattle.command_words.specs.Stated.{TakenIsCommand};
 
 /// Words of the stated form ask for their command: its name, its words, of which none begins with a
 /// dash, then `--station FILE` where it is given, and then its other options, each at most once.
-/// `--track` may stand between these. Each number is decimal digits in its range.
+/// `--quiet` or `--track` may stand between these. Each number is decimal digits in its range.
 pub fn stated_words_are_taken()
     ensures judge { JudgeIsTaken }
     ensures pave { PaveIsTaken }
-    ensures solve { FilesAreTaken (codes "solve") Solve }
+    ensures solve { QuietIsTaken (codes "solve") Solve }
     ensures check { FilesAreTaken (codes "check") Check }
-    ensures track { FilesAreTaken (codes "track") Track }
+    ensures track { QuietIsTaken (codes "track") Track }
     ensures retrack { FilesAreTaken (codes "retrack") Retrack }
     ensures guard { GuardIsTaken }
     ensures make { MakeIsTaken }

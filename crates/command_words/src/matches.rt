@@ -9,8 +9,9 @@ ghost use Rattle.clap.specs.Values.{kind_of};
 ghost use Rattle.clap.specs.Walk.{rows_of, first_of};
 ghost use Rattle.command_words.specs.Program.{program};
 ghost use Rattle.command_words.specs.Numbers.{epoch_or};
-ghost use Rattle.command_words.specs.Commands.{judge_by, pave_by, files_by, is_said, guard_by};
-ghost use Rattle.command_words.specs.Commands.{make_by, epochs_by, command_by, command_said};
+ghost use Rattle.command_words.specs.Commands.{judge_by, pave_by, files_by, is_said, is_quiet};
+ghost use Rattle.command_words.specs.Commands.{solve_by, track_by, guard_by, make_by};
+ghost use Rattle.command_words.specs.Commands.{epochs_by, command_by, command_said};
 ghost use Rattle.command_words.specs.Commands.{command_of};
 ghost use Rattle.command_words.specs.Seen.{texts, epochs_asked, files_asked, asked, IsSelection};
 ghost use Rattle.command_words.specs.Seen.{HasRanges};
@@ -85,11 +86,11 @@ fn command_by<'a>(name: &str, found: &ArgMatches<'a>) -> Option<Command<'a>>
     } else if name == "pave" {
         pave_by(found)
     } else if name == "solve" {
-        Some(Command::Solve(files_by(found)?))
+        solve_by(found)
     } else if name == "check" {
         Some(Command::Check(files_by(found)?))
     } else if name == "track" {
-        Some(Command::Track(files_by(found)?))
+        track_by(found)
     } else if name == "retrack" {
         Some(Command::Retrack(files_by(found)?))
     } else if name == "guard" {
@@ -117,14 +118,32 @@ fn judge_by<'a>(found: &ArgMatches<'a>) -> Option<Command<'a>>
     Some(Command::Judge { log })
 }
 
-/// `pave ROWS LOG`.
+/// Whether a flag is there.
+fn is_said(flag: Option<&str>) -> bool
+    ensures { result ≡ is_said (option_map (λ t. t.now) flag.entry) }
+{
+    match flag {
+        Some(text) => text == "true",
+        None => false,
+    }
+}
+
+/// Whether `--quiet` is there.
+fn is_quiet(found: &ArgMatches<'_>) -> bool
+    ensures { result ≡ is_quiet (rows_of (found_of found.now)) }
+{
+    is_said(text_of(found, "quiet"))
+}
+
+/// `pave ROWS LOG` and `--quiet`.
 fn pave_by<'a>(found: &ArgMatches<'a>) -> Option<Command<'a>>
     ensures command { option_map asked result ≡ pave_by (rows_of (found_of found.now)) }
     ensures ranges { IfSome result HasRanges }
 {
     let rows = text_of(found, "rows")?;
     let log = text_of(found, "log")?;
-    Some(Command::Pave { rows, log })
+    let quiet = is_quiet(found);
+    Some(Command::Pave { rows, log, quiet })
 }
 
 /// `OBS NAV SETTINGS LOG`, `--from N`, `--to N` and `--station FILE`.
@@ -148,14 +167,24 @@ fn files_by<'a>(found: &ArgMatches<'a>) -> Option<Files<'a>>
     })
 }
 
-/// Whether a flag is there.
-fn is_said(flag: Option<&str>) -> bool
-    ensures { result ≡ is_said (option_map (λ t. t.now) flag.entry) }
+/// `solve` with these, and `--quiet`.
+fn solve_by<'a>(found: &ArgMatches<'a>) -> Option<Command<'a>>
+    ensures command { option_map asked result ≡ solve_by (rows_of (found_of found.now)) }
+    ensures ranges { IfSome result HasRanges }
 {
-    match flag {
-        Some(text) => text == "true",
-        None => false,
-    }
+    let files = files_by(found)?;
+    let quiet = is_quiet(found);
+    Some(Command::Solve { files, quiet })
+}
+
+/// `track` with the same.
+fn track_by<'a>(found: &ArgMatches<'a>) -> Option<Command<'a>>
+    ensures command { option_map asked result ≡ track_by (rows_of (found_of found.now)) }
+    ensures ranges { IfSome result HasRanges }
+{
+    let files = files_by(found)?;
+    let quiet = is_quiet(found);
+    Some(Command::Track { files, quiet })
 }
 
 /// `OBS NAV SETTINGS ZONES LOG`, `--from N`, `--to N`, `--station FILE` and `--track`.

@@ -24,6 +24,9 @@ const ON_FILES: &[&str] = &["obs", "nav", "settings", "log"];
 /// The options of such a command: the epochs that are taken, and the file of a station.
 const OPTIONS: &[&str] = &["from", "to", "station"];
 
+/// The flag of a command that writes a log and prints its report.
+const QUIET: &[&str] = &["quiet"];
+
 /// The commands of the program.
 static FORMS: [Form<'static>; 8] = [
     Form {
@@ -36,13 +39,13 @@ static FORMS: [Form<'static>; 8] = [
         name: "pave",
         words: &["rows", "log"],
         options: &[],
-        flags: &[],
+        flags: QUIET,
     },
     Form {
         name: "solve",
         words: ON_FILES,
         options: OPTIONS,
-        flags: &[],
+        flags: QUIET,
     },
     Form {
         name: "check",
@@ -54,7 +57,7 @@ static FORMS: [Form<'static>; 8] = [
         name: "track",
         words: ON_FILES,
         options: OPTIONS,
-        flags: &[],
+        flags: QUIET,
     },
     Form {
         name: "retrack",

@@ -36,12 +36,12 @@ use Rattle.sat_model.specs.Logs.{LogValue}
 use Rattle.cover_run.proofs.AcceptLemmas.{not_refused, track_not_refused}
 use Rattle.cover_run.proofs.RunLemmas.{stopped_not_done}
 use Rattle.cover_run.proofs.TaskLemmas.{checked_fair}
-use Rattle.cover_run.specs.Accepting.{AreApart, RunsThen, SolvesThenChecks, TracksThenRechecks}
+use Rattle.cover_run.specs.Accepting.{AreApart, RunsQuietlyThen, RunsThen, SolvesThenChecks, TracksThenRechecks}
 use Rattle.cover_run.specs.Chosen.{chosen_in}
 use Rattle.cover_run.specs.Checking.{CheckedValue, ReadsCheckedFor, SaysAccepted}
 use Rattle.cover_run.specs.Checking.{SaysRefused, checked_files, checked_value}
 use Rattle.cover_run.specs.Rechecking.{SaysTracked, SaysUntracked}
-use Rattle.cover_run.specs.Runs.{Ends, IsVerdict, IsWritten, Task, TellsAlone}
+use Rattle.cover_run.specs.Runs.{Ends, IsVerdict, IsWritten, Task, TellsAlone, muted, muted_trust}
 use Rattle.cover_run.specs.Solving.{IsSolution, epochs_of}
 use Rattle.cover_run.specs.Telling.{Tells, sinks}
 use Rattle.cover_run.specs.Tracking.{IsTrack}
@@ -377,18 +377,35 @@ module _ (names : words.Files) where
 
 module _ (limits : Limits) (names : words.Files) (a b c d : World) (solver checker : Trust)
     (s : Status) where
+  -- the same where the first was quiet
+  module _ (p : Pair names) where
+    abbrev Runs : Type 0
+    Runs = RunsQuietlyThen (writer limits names p) (reader limits names p) names a b c d solver
+        checker s
+
+    accepted_both : Runs → IsBrokenOff s ⊎ (s ≡ status.Done)
+    accepted_both (false, runs) = accepted_by limits names p a b c d solver checker s runs
+    accepted_both (true, (runs, same)) = accepted_by limits names p (muted a) (muted b) c d
+        (muted_trust solver) checker s runs
+
+    certain_both : Runs → checker.log None → checker.out
+        → (s ≡ status.NoMemory) ⊎ (s ≡ status.Done)
+    certain_both (false, runs) = certain_by limits names p a b c d solver checker s runs
+    certain_both (true, (runs, same)) = certain_by limits names p (muted a) (muted b) c d
+        (muted_trust solver) checker s runs
+
   pub accepted : SolvesThenChecks limits names a b c d solver checker s
       → IsBrokenOff s ⊎ (s ≡ status.Done)
-  accepted = accepted_by limits names (solve_and_check names) a b c d solver checker s
+  accepted = accepted_both (solve_and_check names)
 
   pub certain : SolvesThenChecks limits names a b c d solver checker s
       → checker.log None → checker.out → (s ≡ status.NoMemory) ⊎ (s ≡ status.Done)
-  certain = certain_by limits names (solve_and_check names) a b c d solver checker s
+  certain = certain_both (solve_and_check names)
 
   pub track_accepted : TracksThenRechecks limits names a b c d solver checker s
       → IsBrokenOff s ⊎ (s ≡ status.Done)
-  track_accepted = accepted_by limits names (track_and_recheck names) a b c d solver checker s
+  track_accepted = accepted_both (track_and_recheck names)
 
   pub track_certain : TracksThenRechecks limits names a b c d solver checker s
       → checker.log None → checker.out → (s ≡ status.NoMemory) ⊎ (s ≡ status.Done)
-  track_certain = certain_by limits names (track_and_recheck names) a b c d solver checker s
+  track_certain = certain_both (track_and_recheck names)

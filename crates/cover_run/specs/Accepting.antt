@@ -1,13 +1,13 @@
 -- A run of `check` behind one of `solve`, on the same files and epochs; and one of `retrack` behind
 -- one of `track`.
-use Rattle.std.specs.Prelude.{◌≡◌, ◌≢◌, Some, IfSome}
+use Rattle.std.specs.Prelude.{◌≡◌, ◌≢◌, Bool, Some, IfSome}
 use Rattle.command_words.specs.Commands as words
 use Rattle.input_files.specs.declared.limits.Limits.{Limits}
 use Rattle.input_files.specs.declared.status.Status.{Status}
 use Rattle.input_files.specs.declared.status.Status.TheVariants as status
 use Rattle.log_writer.specs.Writing.{Trust}
 use Rattle.outer_io.specs.Told.{Files, files_of}
-use Rattle.cover_run.specs.Runs.{RunOf, Task, checking, rechecking, solving, tracking}
+use Rattle.cover_run.specs.Runs.{Quietly, RunOf, Task, checking, rechecking, solving, tracking}
 use Rattle.cover_run.specs.Worlds.{World}
 
 -- none of the files is the log
@@ -29,12 +29,18 @@ module _ {V W : Type 0} (first : Task V) (second : Task W) (names : words.Files)
     pub keeps : files_of kept.shelf ≡ files_of solved.shelf
     pub checks : RunOf second kept after checker s
 
+  -- the first may have been quiet
+  abbrev pub RunsQuietlyThen : (before solved kept after : World) → (solver checker : Trust)
+      → Status → Type 0
+  RunsQuietlyThen before solved kept after solver checker s = (quiet : Bool)
+      × Quietly quiet (λ b a t. RunsThen b a kept after t checker s) before solved solver
+
 -- with the same words and limits
 module _ (limits : Limits) (names : words.Files) where
   abbrev pub SolvesThenChecks : (before solved kept after : World) → (solver checker : Trust)
       → Status → Type 0
-  SolvesThenChecks = RunsThen (solving limits names) (checking limits names) names
+  SolvesThenChecks = RunsQuietlyThen (solving limits names) (checking limits names) names
 
   abbrev pub TracksThenRechecks : (before tracked kept after : World)
       → (solver checker : Trust) → Status → Type 0
-  TracksThenRechecks = RunsThen (tracking limits names) (rechecking limits names) names
+  TracksThenRechecks = RunsQuietlyThen (tracking limits names) (rechecking limits names) names

@@ -17,7 +17,8 @@ use Rattle.input_files.specs.declared.notice.Notice.{Notice}
 use Rattle.input_files.specs.declared.notice.Notice.TheVariants as notice
 use Rattle.input_files.specs.declared.status.Status.{Status}
 use Rattle.input_files.specs.declared.status.Status.TheVariants as status
-use Rattle.log_writer.specs.Writing.{Trust}
+use Rattle.log_writer.specs.Writing.{Trust, trust_of}
+use Rattle.outer_io.specs.Taken.{SinkState}
 use Rattle.outer_io.specs.Told.{Files, files_of}
 use Rattle.outer_io.specs.declared.slots.Slot.TheVariants as slot
 use Rattle.paving_log.specs.Values.{log_value}
@@ -177,6 +178,26 @@ guarding limits names zones tracked = record {
   Suits = λ found s. IsVerdict s;
 }
 
+-- ---- with no report
+
+-- a sink that takes everything and keeps nothing: none of its writes fails
+abbrev pub nowhere : SinkState
+nowhere = record { told = None; faults = 0 }
+
+-- with that sink in the place of `out`
+abbrev pub muted : World → World
+muted w = record w { out = nowhere }
+
+abbrev pub muted_trust : Trust → Trust
+muted_trust trust = trust_of trust.log (Unit {0})
+
+-- Who is quiet does the same over a sink that takes everything and keeps nothing. So no fault of
+-- `out` ends it, and `out` is as it was.
+abbrev pub Quietly : Bool → (World → World → Trust → Type 0) → World → World → Trust → Type 0
+Quietly false Does before after trust = Does before after trust
+Quietly true Does before after trust =
+    Does (muted before) (muted after) (muted_trust trust) × (after.out ≡ before.out)
+
 -- ---- the words
 
 -- this was said, and nothing else was done
@@ -184,18 +205,19 @@ abbrev pub OnlySays : Notice → World → World → Status → Type 0
 OnlySays n before after s = (s ≡ status_of n) × Says before.err after.err n
     × (after.shelf ≡ before.shelf) × (after.out ≡ before.out)
 
--- The words ask for this. Where they are no command it is said, and nothing else is done.
+-- The words ask for this, whether quiet or not. Where they are no command it is said, and nothing
+-- else is done.
 abbrev pub Obeys : Limits → Option Command → World → World → Trust → Status → Type 0
 Obeys limits None before after trust s = OnlySays notice.Usage before after s
 Obeys limits (Some (Judge log)) before after trust s =
     RunOf (judging limits log) before after trust s
-Obeys limits (Some (Pave rows log)) before after trust s =
+Obeys limits (Some (Pave rows log quiet)) before after trust s =
     RunOf (paving limits rows log) before after trust s
-Obeys limits (Some (Solve names)) before after trust s =
+Obeys limits (Some (Solve names quiet)) before after trust s =
     RunOf (solving limits names) before after trust s
 Obeys limits (Some (Check names)) before after trust s =
     RunOf (checking limits names) before after trust s
-Obeys limits (Some (Track names)) before after trust s =
+Obeys limits (Some (Track names quiet)) before after trust s =
     RunOf (tracking limits names) before after trust s
 Obeys limits (Some (Retrack names)) before after trust s =
     RunOf (rechecking limits names) before after trust s
@@ -207,7 +229,19 @@ Obeys limits (Some (Make seed epochs)) before after trust s =
     trust.out s
     × (after.shelf ≡ before.shelf)
 
+-- whether the words ask for a log without its report
+abbrev pub asks_quiet : Option Command → Bool
+asks_quiet (Some (Pave rows log quiet)) = quiet
+asks_quiet (Some (Solve names quiet)) = quiet
+asks_quiet (Some (Track names quiet)) = quiet
+asks_quiet _ = false
+
+-- what they ask for is done, quietly where they say so
+abbrev pub ObeysWords : Limits → Option Command → World → World → Trust → Status → Type 0
+ObeysWords limits asked before after trust s =
+    Quietly (asks_quiet asked) (λ b a t. Obeys limits asked b a t s) before after trust
+
 -- Memory may lack to read the words, whatever they are: then it is said, and nothing else is done.
 abbrev pub Runs : Limits → Option Command → World → World → Trust → Status → Type 0
 Runs limits asked before after trust s =
-    OnlySays notice.NoMemory before after s ⊎ Obeys limits asked before after trust s
+    OnlySays notice.NoMemory before after s ⊎ ObeysWords limits asked before after trust s

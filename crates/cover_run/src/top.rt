@@ -3,7 +3,7 @@
 ghost use Rattle.std.specs.Prelude.{◌≡◌, ◌≢◌, ◌⊎◌, None, Some};
 ghost use Rattle.command_words.specs.Commands.{command_of};
 ghost use Rattle.command_words.specs.Seen.{HasRanges, asked, texts};
-ghost use Rattle.cover_run.specs.Runs.{Obeys, Runs};
+ghost use Rattle.cover_run.specs.Runs.{Obeys, ObeysWords, Runs, asks_quiet};
 ghost use Rattle.cover_run.specs.Worlds.{world};
 ghost use Rattle.input_files.specs.declared.status.Status.{Status};
 ghost use Rattle.log_writer.specs.Writing.{trust_of};
@@ -17,6 +17,7 @@ use crate::rechecking::run_retrack;
 use crate::solving::run_solve;
 use crate::telling::say;
 use crate::tracking::run_track;
+use crate::unseen::Unseen;
 use command_words::{Command, command_of};
 use grid_model::NoMemory;
 use input_files::{Limits, Notice, Status};
@@ -34,7 +35,8 @@ use std::alloc::Global;
 /// the receiver is lost nothing more is. `guard OBS NAV SETTINGS ZONES LOG` checks the log as
 /// `check` does, or with `--track` as `retrack`. Where the verdict is no it prints that alone, and
 /// else for each epoch what is found of each zone and direction. `pave ROWS LOG` reads the rows,
-/// paves their epochs, writes the log and prints the report on `out`. `make SEED EPOCHS` makes the
+/// paves their epochs, writes the log and prints the report on `out`. With `--quiet` these three
+/// that write a log print no report: `out` stays as it is. `make SEED EPOCHS` makes the
 /// files of a receiver, solves them in memory and prints two lines on `out`. What stands in the way
 /// is said on `err`, where a fault changes nothing. When none comes over objects in memory is said
 /// at `run_with_room` of `run_tests`.
@@ -63,8 +65,43 @@ pub fn run<H: Shelf, O: Sink, E: Sink>(
     }
 }
 
-/// Does what the command asks for.
+/// Whether the command asks for a log without its report.
+fn asks_quiet(command: &Command<'_>) -> bool
+    ensures { result ≡ asks_quiet (Some (asked command.now)) }
+{
+    match command {
+        Command::Pave { quiet, .. } => *quiet,
+        Command::Solve { quiet, .. } => *quiet,
+        Command::Track { quiet, .. } => *quiet,
+        _ => false,
+    }
+}
+
+/// Does what the command asks for, and prints no report where it is to be quiet.
 fn obey<H: Shelf, O: Sink, E: Sink>(
+    alloc: Global,
+    limits: &Limits,
+    command: &Command<'_>,
+    shelf: &mut H,
+    out: &mut O,
+    err: &mut E,
+) -> Status
+    requires { HasRanges command.now }
+    ensures known { result ≢ Status.Usage }
+    ensures obeys { ObeysWords limits.now (Some (asked command.now))
+        (world (H.state shelf.old) (O.state out.old) (E.state err.old))
+        (world (H.state shelf.new) (O.state out.new) (E.state err.new))
+        (trust_of (H.reliable shelf.new) (O.reliable out.new)) result }
+{
+    if asks_quiet(command) {
+        let mut nowhere = Unseen;
+        return obey_with(alloc, limits, command, shelf, &mut nowhere, err);
+    }
+    obey_with(alloc, limits, command, shelf, out, err)
+}
+
+/// Does what the command asks for, with its report on `out`.
+fn obey_with<H: Shelf, O: Sink, E: Sink>(
     alloc: Global,
     limits: &Limits,
     command: &Command<'_>,
@@ -81,10 +118,10 @@ fn obey<H: Shelf, O: Sink, E: Sink>(
 {
     match command {
         Command::Judge { log } => run_judge(alloc, limits, log, shelf, out, err),
-        Command::Pave { rows, log } => run_pave(alloc, limits, rows, log, shelf, out, err),
-        Command::Solve(files) => run_solve(alloc, limits, files, shelf, out, err),
+        Command::Pave { rows, log, .. } => run_pave(alloc, limits, rows, log, shelf, out, err),
+        Command::Solve { files, .. } => run_solve(alloc, limits, files, shelf, out, err),
         Command::Check(files) => run_check(alloc, limits, files, shelf, out, err),
-        Command::Track(files) => run_track(alloc, limits, files, shelf, out, err),
+        Command::Track { files, .. } => run_track(alloc, limits, files, shelf, out, err),
         Command::Retrack(files) => run_retrack(alloc, limits, files, shelf, out, err),
         Command::Guard {
             files,

@@ -42,7 +42,7 @@ use Rattle.cover_run.specs.Making.{Makes, made_text}
 use Rattle.cover_run.specs.Guarding.{ReadsGuarded, ReadsLogBehind, ReadsZones, guarded_by}
 use Rattle.cover_run.specs.Paving.{IsPaved}
 use Rattle.cover_run.specs.Chosen.{chosen_in}
-use Rattle.cover_run.specs.Runs.{Task, RunOf, Ends, Stops, OnlySays, Obeys, Runs, TellsAlone, judging, paving, solving, checking, tracking, rechecking, guarding}
+use Rattle.cover_run.specs.Runs.{Task, RunOf, Ends, Stops, OnlySays, Obeys, Quietly, Runs, TellsAlone, asks_quiet, muted, muted_trust, judging, paving, solving, checking, tracking, rechecking, guarding}
 use Rattle.cover_run.specs.Solving.{IsSolution}
 use Rattle.cover_run.specs.Tracking.{IsTrack}
 use Rattle.cover_run.specs.Telling.{Tells, sinks}
@@ -396,17 +396,17 @@ module _ (limits : Limits) (told : Told) (before after : World) (trust : Trust) 
       task_safe (judging limits log) limits.log None told before after trust s tells
       (λ sure. named_sound before.shelf after.shelf trust.log sure limits told.files log_text log there)
       (λ v does. tell_safe _ _ _ limits.log told before after trust s tells does) r
-  obeys_safe (Pave rows log) s tells there r =
+  obeys_safe (Pave rows log quiet) s tells there r =
       task_safe (paving limits rows log) limits.log (Some log) told before after trust s tells
       (λ sure. named_sound before.shelf after.shelf trust.log sure limits told.files rows_text rows there)
       (λ v does. write_safe log _ limits.log _ (IsPaved (log_value v) limits.log) told before after trust s tells (λ answer bytes said t. text_fits of_rows v.rules (log_value v).blocks t.0 limits.log answer bytes said t.1) does) r
-  obeys_safe (Solve names) s tells there r =
+  obeys_safe (Solve names quiet) s tells there r =
       task_safe (solving limits names) limits.log (Some names.log) told before after trust s tells (inputs_sound false names there)
       (λ v does. write_safe names.log _ limits.log _ (IsSolution (chosen_in names) v limits.log) told before after trust s tells (solution_fits (chosen_in names) v limits.log) does) r
   obeys_safe (Check names) s tells there r =
       task_safe (checking limits names) limits.log None told before after trust s tells (check_sound false names there)
       (λ v does. tell_safe _ _ _ limits.log told before after trust s tells does) r
-  obeys_safe (Track names) s tells there r =
+  obeys_safe (Track names quiet) s tells there r =
       task_safe (tracking limits names) limits.log (Some names.log) told before after trust s tells (inputs_sound true names there)
       (λ v does. write_safe names.log _ limits.log _ (IsTrack (chosen_in names) v limits.log) told before after trust s tells (track_fits (chosen_in names) v limits.log) does) r
   obeys_safe (Retrack names) s tells there r =
@@ -418,11 +418,26 @@ module _ (limits : Limits) (told : Told) (before after : World) (trust : Trust) 
   obeys_safe (Make seed epochs) s tells there r =
       make_safe limits.log seed epochs None told before after trust s tells r.0 r.1
 
+-- the same with no report: then `out` is as it was
+quietly_safe : (quiet : Bool) (limits : Limits) (told : Told) (before after : World) (trust : Trust) (command : Command) (s : Status)
+    → before.shelf.told ≡ Some told → AreThere told.files command
+    → Quietly quiet (λ b a t. Obeys limits (Some command) b a t s) before after trust
+    → IsSafe limits.log (written_by command) told before after trust s
+quietly_safe false limits told before after trust command s tells there obeys = obeys_safe limits told before after trust command s tells there obeys
+quietly_safe true limits told before after trust command s tells there (obeys, same) =
+    let safe = obeys_safe limits told (muted before) (muted after) (muted_trust trust) command s tells there obeys in
+    record {
+      sound = λ sure named out. safe.sound sure named tt;
+      shelf = safe.shelf;
+      out = took_none before.out after.out same;
+    }
+
+module _ (limits : Limits) (told : Told) (before after : World) (trust : Trust) where
   run_safe : (command : Command) (s : Status) → before.shelf.told ≡ Some told
       → AreThere told.files command → Runs limits (Some command) before after trust s
       → IsSafe limits.log (written_by command) told before after trust s
   run_safe command s tells there (inl only) = only_safe notice.NoMemory limits.log (written_by command) told before after trust s tells (memory_harmless s) only
-  run_safe command s tells there (inr obeys) = obeys_safe command s tells there obeys
+  run_safe command s tells there (inr obeys) = quietly_safe (asks_quiet (Some command)) limits told before after trust command s tells there obeys
 
 -- ---- objects in memory
 

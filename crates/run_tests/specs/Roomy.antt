@@ -22,10 +22,10 @@ AreInputsThere files names =
 -- the files that are read are there
 abbrev pub AreThere : Files → Command → Type 0
 AreThere files (Judge log) = IsThere files log
-AreThere files (Pave rows log) = IsThere files rows
-AreThere files (Solve names) = AreInputsThere files names
+AreThere files (Pave rows log quiet) = IsThere files rows
+AreThere files (Solve names quiet) = AreInputsThere files names
 AreThere files (Check names) = AreInputsThere files names × IsThere files names.log
-AreThere files (Track names) = AreInputsThere files names
+AreThere files (Track names quiet) = AreInputsThere files names
 AreThere files (Retrack names) = AreInputsThere files names × IsThere files names.log
 AreThere files (Guard names zones tracked) =
     AreInputsThere files names × (IsThere files zones × IsThere files names.log)
@@ -34,10 +34,10 @@ AreThere files (Make seed epochs) = Unit {0}
 -- the file that is written
 abbrev pub written_by : Command → Option (List ℕ)
 written_by (Judge log) = None
-written_by (Pave rows log) = Some log
-written_by (Solve names) = Some names.log
+written_by (Pave rows log quiet) = Some log
+written_by (Solve names quiet) = Some names.log
 written_by (Check names) = None
-written_by (Track names) = Some names.log
+written_by (Track names quiet) = Some names.log
 written_by (Retrack names) = None
 written_by (Guard names zones tracked) = None
 written_by (Make seed epochs) = None

@@ -18,10 +18,11 @@ import sys
 import tempfile
 from collections.abc import Callable, Iterator
 from dataclasses import dataclass
+from functools import cached_property
 from pathlib import Path
 
 from gpscover.errors import Error
-from gpscover.log import Log, PathLike, open_log
+from gpscover.log import Log, PathLike, open_log, open_text
 from gpscover.program import find_program
 from gpscover.settings import Settings
 
@@ -54,11 +55,33 @@ class Refused(ProgramError):
 
 @dataclass(frozen=True)
 class Report:
-    """What a run of `solve` or `track` made."""
+    """What a run of `solve` or `track` made. What it says beside the log is read off that when it is asked for."""
 
     log: Log
-    epochs: int  # how many the report has
-    lost: int | None = None  # the number of the epoch in which a receiver that moves was lost
+    tracked: bool  # whether the log is one of `track`
+
+    @property
+    def epochs(self) -> int:
+        """How many the log has."""
+        return self.ends[0]
+
+    @property
+    def lost(self) -> int | None:
+        """The number of the epoch in which a receiver that moves was lost."""
+        return self.ends[1]
+
+    @cached_property
+    def ends(self) -> tuple[int, int | None]:
+        """How many epochs the log has, and the last one's number where it ends a track: where it keeps no box."""
+        count, last, kept = 0, None, True
+        with open_text(self.log.path) as file:
+            for line in file:
+                word, _, rest = line.partition(" ")
+                if word in ("epoch", "few"):
+                    count, last, kept = count + 1, int(rest.split(" ")[0]), word == "few"
+                elif word in ("in", "edge"):
+                    kept = True
+        return count, last if self.tracked and not kept else None
 
 
 @dataclass(frozen=True)
@@ -145,20 +168,16 @@ def solved(
     program: PathLike | None,
     progress: Progress | None,
 ) -> Report:
-    """Runs `solve` or `track`, and reads its report as it comes."""
+    """Runs `solve` or `track`. Its report is wanted for the progress alone."""
     obs, nav, settings, log = files
-    count, lost = 0, None
+    quiet = ["--quiet"] if progress is None else []
     with settings_file(settings) as toml:
-        words = [str(find_program(program)), command, *options, "--", str(obs), str(nav), toml]
+        words = [str(find_program(program)), command, *options, *quiet, "--", str(obs), str(nav), toml]
         for line in lines_of([*words, str(log)]):
             word, _, rest = line.partition(" ")
-            if word in ("epoch", "few"):
-                count += 1
-                if progress is not None:
-                    progress(int(rest.split(" ")[0]))
-            elif word == "lost":
-                lost = int(rest)
-    return Report(open_log(log), count, lost)
+            if progress is not None and word == "epoch":
+                progress(int(rest.split(" ")[0]))
+    return Report(open_log(log), command == "track")
 
 
 def solve(

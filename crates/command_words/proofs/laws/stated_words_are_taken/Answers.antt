@@ -1,4 +1,5 @@
-use Rattle.command_words.proofs.StatedLemmas.{judge_taken, pave_taken, solve_taken, check_taken, track_taken, retrack_taken, make_taken}
+use Rattle.command_words.proofs.StatedLemmas.{judge_taken, pave_taken, check_taken, retrack_taken, make_taken}
+use Rattle.command_words.proofs.QuietLemmas.{solve_taken, track_taken}
 use Rattle.command_words.proofs.GuardLemmas.{guard_taken}
 use Rattle.command_words.proofs.laws.stated_words_are_taken.Goals as goal
 

@@ -1,6 +1,6 @@
 use Rattle.std.proofs.Common.{refl}
 use Rattle.cover_run.proofs.MakingLemmas.{makes_known}
-use Rattle.cover_run.proofs.top.obey.Goals as goal
+use Rattle.cover_run.proofs.top.obey_with.Goals as goal
 
 pub returns-in-Make-clause-known : goal.returns-in-Make-clause-known
 returns-in-Make-clause-known g c =
