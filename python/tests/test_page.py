@@ -184,7 +184,7 @@ class TestParts:
             target = [
                 p + 2e7 * (math.sin(turn) * e + math.cos(turn) * n + u) for p, e, n, u in zip(place, east, north, up)
             ]
-            assert (math.degrees(geodesy.azimuth(place, target)) + 1) % 360 == pytest.approx(
+            assert (math.degrees(geodesy.Frame.at(place).azimuth(target)) + 1) % 360 == pytest.approx(
                 (degrees + 1) % 360, rel=0, abs=5e-7
             )
 

@@ -43,11 +43,11 @@ from typing import Any
 
 from gpscover.command import Command, absent, name_ending, whole_file
 from gpscover.errors import Error, LogError, UsageError
-from gpscover.geodesy import Vector, azimuth, elevation
+from gpscover.geodesy import Frame, Vector
 from gpscover.integrity import Judge, Limits, limit_argument
 from gpscover.kml import ground_ring
 from gpscover.log import UM_PER_M, Box, Epoch, PathLike, Rules, epochs, rules_of
-from gpscover.outline import Flat, offsets_of, outer_corners, outline_of
+from gpscover.outline import Flat, outlines
 from gpscover.places import Meetings
 from gpscover.region import Region, hull_of, region_or_none, upward
 from gpscover.summary import COLUMNS, Totals, csv_line, mark_of, text_cells
@@ -171,11 +171,12 @@ def metres(um: int) -> float:
 def satellites_of(epoch: Epoch, place: Vector) -> Iterator[list[Any]]:
     """Name, elevation and azimuth in degrees as seen from a place, and the ends of what is declared
     of the error in m."""
+    frame = Frame.at(place)
     for row in epoch.rows:
         there = [(low + high) / 2 / UM_PER_M for low, high in row.place]
         angles: list[float | None] = [None, None]
         if there != list(place):
-            angles = [round(math.degrees(angle), 2) for angle in (elevation(place, there), azimuth(place, there))]
+            angles = [round(math.degrees(angle), 2) for angle in (frame.elevation(there), frame.azimuth(there))]
         yield [row.satellite, *angles, *(metres(end) for end in row.error + row.sure)]
 
 
@@ -186,8 +187,8 @@ def rounded(points: Iterable[Flat], digits: int) -> list[list[float]]:
 
 def outlines_of(epoch: Epoch, region: Region) -> list[list[Flat]]:
     """The outlines of all kept boxes in m: east and north, east and up, north and up."""
-    corners, (east, north, up) = offsets_of(outer_corners(epoch.boxes), region.origin), region.axes
-    return [outline_of(corners, *pair) for pair in ((east, north), (east, up), (north, up))]
+    east, north, up = region.axes
+    return outlines(epoch.boxes, region.origin, (east, north), (east, up), (north, up))
 
 
 def detail(epoch: Epoch, region: Region | None, mark: str) -> str:
