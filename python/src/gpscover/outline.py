@@ -16,7 +16,6 @@ from gpscover.log import UM_PER_M, Box
 Flat = tuple[float, float]  # a point of a plane in m
 Ends = Sequence[Sequence[float]]  # of boxes, in um: those along x, y and z, low ones before high ones
 
-ROUNDING_M2 = 1e-3  # more than the rounding of a product of two lengths of a region
 ROUNDING_UM = 1.0  # more than that of a length
 
 
@@ -39,12 +38,7 @@ def convex_hull(points: Iterable[Flat]) -> list[Flat]:
     ordered = sorted(set(points))
     if len(ordered) < 3:
         return ordered
-    (a, b), (c, d) = ordered[0], ordered[-1]
-    # how far each point is on the left of the way from the first to the last one; each half has one side of it
-    lefts = [(c - a) * (y - b) - (d - b) * (x - a) for x, y in ordered]
-    below = [point for point, left in zip(ordered, lefts) if left < ROUNDING_M2]
-    above = [point for point, left in zip(ordered, lefts) if left > -ROUNDING_M2]
-    return half_hull(below) + half_hull(above[::-1])
+    return half_hull(ordered) + half_hull(ordered[::-1])
 
 
 def ends_from(boxes: Iterable[Box], origin: Vector) -> Ends:

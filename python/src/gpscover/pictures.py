@@ -65,8 +65,8 @@ from gpscover.outline import Flat, convex_hull, outline
 from gpscover.places import Meetings
 from gpscover.region import Extent, Region, extent_along, half_sides, offsets, reaches, region_of, region_or_none
 from gpscover.region import touched_faces, upward
-from gpscover.shapes import corners
-from gpscover.zones import Corners, Reach, Zone, read_zones
+from gpscover.shapes import points_of
+from gpscover.zones import Zone, chosen_zones, zone_arguments
 
 T = TypeVar("T")
 Gathered = TypeVar("Gathered", "Course", "Tube", "Fenced")
@@ -511,13 +511,7 @@ class Fenced:
         """The outline of a zone; none before the first region."""
         if self.frame is None:
             return []
-        if isinstance(fence, Corners):
-            return ring_above(self.frame, [Box(*fence.low, *fence.high)])
-        points = [
-            (x / divisor / UM_PER_M, y / divisor / UM_PER_M, z / divisor / UM_PER_M)
-            for x, y, z, divisor in corners(fence.sides)
-        ]
-        return convex_hull([self.frame.offset(point)[:2] for point in points])
+        return convex_hull([self.frame.offset(point)[:2] for point in points_of(fence)])
 
     def title(self, number: int) -> str:
         """How many epochs say what of a zone."""
@@ -574,13 +568,8 @@ def draw_fences(fenced: Fenced, out: str, note: str | None) -> None:
 
 
 def fences_of(paths: Sequence[PathLike], names: Sequence[str]) -> list[Zone]:
-    """The zones of some files, or those with these names."""
-    things = [thing for path in paths for thing in read_zones(path)[1]]
-    found = [thing for thing in things if not isinstance(thing, Reach)]
-    unknown = set(names) - {fence.name for fence in found}
-    if unknown or not found:
-        raise Error(f"no zone {' '.join(sorted(unknown))} in {' '.join(map(str, paths))}")
-    found = [fence for fence in found if not names or fence.name in names]
+    """The zones that have a panel each."""
+    found = chosen_zones(paths, names)
     if len(found) > MOST_PANELS:
         raise Error(f"{len(found)} zones: name at most {MOST_PANELS} of them with --zone")
     return found
@@ -719,8 +708,7 @@ def arguments(parser: argparse.ArgumentParser) -> None:
     region.add_argument("--place", type=measure, nargs=3, metavar=("X", "Y", "Z"), help="a known place, m")
     time.add_argument("--moving", action="store_true", help="round the place of each epoch")
     track.add_argument("--beside", metavar="LOG", help="another log, whose regions' lengths are drawn too")
-    fenced.add_argument("--zones", metavar="ZONES", nargs="+", required=True, help="files of zones")
-    fenced.add_argument("--zone", metavar="NAME", action="append", default=[], help="a zone that is drawn (all)")
+    zone_arguments(fenced, required=True)
     limit_argument(integrity)
 
 

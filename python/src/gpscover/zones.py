@@ -197,6 +197,22 @@ def read_zones(path: PathLike) -> tuple[bool, list[Thing]]:
     return reader.second, reader.things
 
 
+def chosen_zones(paths: Sequence[PathLike], names: Sequence[str]) -> list[Zone]:
+    """The zones of some files, or those with these names. Error where a name has none, or there is none at all."""
+    things = [thing for path in paths for thing in read_zones(path)[1]]
+    found = [thing for thing in things if not isinstance(thing, Reach)]
+    unknown = set(names) - {zone.name for zone in found}
+    if unknown or not found:
+        raise Error(f"no zone {' '.join(sorted(unknown))} in {' '.join(map(str, paths))}")
+    return [zone for zone in found if not names or zone.name in names]
+
+
+def zone_arguments(parser: argparse.ArgumentParser, required: bool) -> None:
+    """The words of files of zones and of some names in them."""
+    parser.add_argument("--zones", metavar="ZONES", nargs="+", required=required, default=[], help="files of zones")
+    parser.add_argument("--zone", metavar="NAME", action="append", default=[], help="a zone that is drawn (all)")
+
+
 # ---- what is told
 
 
