@@ -69,9 +69,10 @@ class Sight:
         return [self.ends[k + 3 if vector[k] > 0 else k] for k in range(3)]
 
     def farthest(self, angle: float) -> int:
-        """Which box is farthest along a direction."""
-        a, b, c = self.vector(math.cos(angle), math.sin(angle))
-        lengths = [a * x + b * y + c * z for x, y, z in zip(*self.corners(angle))]
+        """Which box is farthest along one of these directions. It is across a side, along which no length counts."""
+        vector = self.vector(math.cos(angle), math.sin(angle))
+        _, (a, firsts), (b, seconds) = sorted(zip(vector, self.corners(angle)), key=lambda part: abs(part[0]))
+        lengths = [a * x + b * y for x, y in zip(firsts, seconds)]
         return lengths.index(max(lengths))
 
     def beyond(self, corners: Ends, first: int, last: int) -> list[Vector]:
