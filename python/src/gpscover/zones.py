@@ -26,6 +26,7 @@ from dataclasses import dataclass
 from gpscover.command import Command
 from gpscover.errors import Error
 from gpscover.log import Box, PathLike, epochs
+from gpscover.region import hull_of
 
 Whole = tuple[int, int, int]
 Side = tuple[Whole, int]  # (A, H)
@@ -51,7 +52,9 @@ class Corners:
     high: Whole
 
     def answer(self, boxes: Sequence[Box]) -> str:
-        """What boxes (low corner and high corner) say of it."""
+        """What boxes (low corner and high corner) say of it: the box round all of them first, which mostly tells."""
+        if len(boxes) > 1 and (whole := self.answer([hull_of(boxes)])) != "open":
+            return whole
         low, high = self.low, self.high
         apart = [any(b[k] > high[k] or b[k + 3] < low[k] for k in range(3)) for b in boxes]
         within = [all(low[k] <= b[k] and b[k + 3] <= high[k] for k in range(3)) for b in boxes]
@@ -66,7 +69,9 @@ class Prism:
     sides: list[Side]
 
     def answer(self, boxes: Sequence[Box]) -> str:
-        """What boxes say of it."""
+        """What boxes say of it: the box round all of them first, which mostly tells."""
+        if len(boxes) > 1 and (whole := self.answer([hull_of(boxes)])) != "open":
+            return whole
         ends = [[span(a, box) for a, _ in self.sides] for box in boxes]
         beyond = [any(low > most for (low, _), (_, most) in zip(of, self.sides)) for of in ends]
         behind = [all(high <= most for (_, high), (_, most) in zip(of, self.sides)) for of in ends]
