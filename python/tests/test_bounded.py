@@ -8,6 +8,7 @@ import pytest
 from made_logs import EXAMPLES, HEAD, PAVED, RECORDED, TOP, WITHIN, ended, epoch_of
 
 from gpscover import bounded, certified, export, integrity, known, page, region, row_sums, summary
+from gpscover.beside import Beside
 from gpscover.bound_search import bounds_over
 from gpscover.log import Bound, Box, RowSum, Term, epochs
 
@@ -230,7 +231,7 @@ class TestSaid:
         for text, has in ((HEAD + WITHIN, False), (BOUNDED_HEAD + ROUND_TEXT, True)):
             path = tmp_path / "one.log"
             path.write_text(text)
-            collected, _ = page.collect([path], 0, math.inf, 10**6)
+            collected, _ = page.collect([path], 0, math.inf, 10**6, Beside())
             words = argparse.Namespace(log=[str(path)], first=None, last=None, settings=None)
             data = page.page_data(words, collected, page.rules_of(path), None, None)
             assert (["certified", "certified"] in data["columns"]) == has

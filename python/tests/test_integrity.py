@@ -21,8 +21,9 @@ from made_logs import (
     written,
 )
 
-from gpscover import Error, geodesy, integrity, pictures, places, region, summary
+from gpscover import Error, geodesy, integrity, pictures, places, region, stanford, summary
 from gpscover.log import epochs as read_epochs
+from gpscover.stanford import Judged
 
 TIME = 895816769999 * 10**9
 DATE = "2008/05/26 05:59:29.999"
@@ -298,11 +299,75 @@ class TestPictures:
         xs, lows, highs = pictures.bands([(0, 1), (1, 2), (2, 3)], [(5, 6)] * 3, [True, False, True])
         assert (xs, [low == 5 for low in lows]) == ((0, 1, 1, 2, 3), [True, True, False, True, True])
 
-    def test_points_are_of_the_first_kind_that_they_are(self):
-        for text, place, name in (
-            (WITHIN, (6378137, 25, 0), "the region holds the place"),
-            (PAVED, (6378150, -10, 0), "the search box cuts the region"),
-            (PAVED, (6378150, 10, 0), "the place isn't in the region"),
+
+class TestCells:
+    def test_an_epoch_of_a_log(self):
+        for text, place, area, held in (
+            (WITHIN, (6378137, 25, 0), "available", True),
+            (PAVED, (6378150, -10, 0), "unavailable", True),
+            (PAVED, (6378150, 10, 0), "unavailable", False),
         ):
-            found = numbers(text, place)
-            assert pictures.point_kind(found, text == PAVED)[0] == name
+            pair = stanford.judged_of(numbers(text, place), text == PAVED)
+            assert [(it.area(None), it.held) for it in pair] == [(area, held)] * 2
+
+    def test_the_areas_of_a_limit(self):
+        for error, protection, area in (
+            (3, 7, "available"),
+            (7, 7, "available"),  # an error as long as its protection is within it
+            (10, 10, "available"),  # and a length as long as the limit within that
+            (3, 11, "unavailable"),
+            (8, 7, "misleading"),
+            (12, 11, "unavailable and misleading"),
+            (11, 7, "hazardously misleading"),
+            (11, 10, "hazardously misleading"),
+        ):
+            assert Judged(error, protection, False, True).area(10) == area
+            # without a limit there is nothing but the diagonal
+            assert Judged(error, protection, False, True).area(None) == (
+                "misleading" if error > protection else "available"
+            )
+            # and what the search box cuts protects nothing
+            assert Judged(error, protection, True, True).area(10) == "unavailable"
+
+    def test_the_cells_of_a_limit(self):
+        # 30 cells of 0.7 m to the limit of 21 m, and 18 more: 33.6 m
+        epochs = [
+            Judged(0.0, 21.0, False, True),  # the limit is the end of the 30th cell
+            Judged(0.7, 21.01, False, True),
+            Judged(0.71, 100.0, False, False),  # in the last one, as what is longer than the axis
+            Judged(33.5, 1.0, True, True),  # in the uppermost one, as the search box cuts it
+        ]
+        found = stanford.diagram_of(epochs, 21.0)
+        assert found.cells == {(0, 29): 1, (0, 30): 1, (1, 47): 1, (47, 47): 1}
+        assert found.areas == {"available": 1, "unavailable": 3}
+        assert {cell for cell in found.lost if found.lost[cell]} == {(1, 47)}
+        assert {cell for cell in found.cut if found.cut[cell]} == {(47, 47)}
+        assert found.beyond == 1
+        assert found.ends[30] == 21.0
+        assert found.square((0, 29))[2] == (found.ends[1], 21.0)
+
+    def test_the_cells_without_a_limit(self):
+        # the longest length is 83 m: cells of 2 m, of which 42 hold it, and one more
+        found = stanford.diagram_of([Judged(3.0, 83.0, False, True), Judged(0.0, 0.0, True, True)], None)
+        assert (found.ends[1], found.ends[-1], found.beyond) == (2.0, 86.0, 0)
+        assert found.cells == {(1, 41): 1, (0, 42): 1}
+        assert [stanford.step_for(length) for length in (0.02, 0.021, 1.0, 1.1, 30.0, 51.0)] == [
+            0.02,
+            0.05,
+            1,
+            2,
+            50,
+            100,
+        ]
+
+    def test_all_lengths_are_none(self):
+        assert stanford.diagram_of([Judged(0.0, 0.0, False, True)], None).cells == {(0, 0): 1}
+
+    def test_shares(self):
+        assert [stanford.share(*it) for it in ((0, 8), (1, 8), (8, 8), (3, 100_000), (99_997, 100_000))] == [
+            "0 (0.0 %)",
+            "1 (12.5 %)",
+            "8 (100.0 %)",
+            "3 (0.0030 %)",
+            "99,997 (99.9970 %)",
+        ]

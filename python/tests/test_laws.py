@@ -1,5 +1,6 @@
 """Laws of values, by hypothesis, and other libraries as oracles."""
 
+import itertools
 import math
 
 import pytest
@@ -8,18 +9,23 @@ from hypothesis import strategies as st
 from made_logs import epoch_of
 
 from gpscover import Box, geodesy
-from gpscover.outline import convex_hull
+from gpscover.outline import convex_hull, outlines
 
 END = st.integers(-(10**13), 10**13)
-BOXES = st.tuples(END, END, END, END, END, END).map(
-    lambda ends: Box(*map(min, ends[:3], ends[3:]), *map(max, ends[:3], ends[3:]))
-)
+NEAR = st.integers(-(10**9), 10**9)
+
+
+def boxes_of(end):
+    """Boxes by a strategy for their ends."""
+    return st.tuples(*[end] * 6).map(lambda ends: Box(*map(min, ends[:3], ends[3:]), *map(max, ends[:3], ends[3:])))
+
+
 LATITUDE, LONGITUDE = st.floats(-1.57, 1.57), st.floats(-3.14, 3.14)
 HEIGHT = st.floats(-10_000, 100_000)
 FLAT = st.lists(st.tuples(st.integers(-50, 50), st.integers(-50, 50)), min_size=3, max_size=30)
 
 
-@given(BOXES, st.lists(st.tuples(st.integers(0, 2), st.booleans()), max_size=30))
+@given(boxes_of(END), st.lists(st.tuples(st.integers(0, 2), st.booleans()), max_size=30))
 def test_splits_partition_the_search_box(root, choices):
     """Each half is kept or split again: the kept boxes share no point and fill the root."""
     lines, live, following = [], 0, 1
@@ -65,3 +71,18 @@ def test_the_hull_is_that_of_shapely(points):
     found = shapely.Polygon(hull)
     assert found.exterior.is_ccw
     assert found.symmetric_difference(wanted).area == 0
+
+
+@given(st.lists(boxes_of(NEAR), min_size=1, max_size=12), LATITUDE, LONGITUDE)
+def test_an_outline_reaches_as_far_as_all_corners(boxes, latitude, longitude):
+    """In each of 72 directions, and each of its own corners is one of a box."""
+    east, north, up = geodesy.local_axes(latitude, longitude)
+    planes = (east, north), (east, up), (north, up)
+    all_corners = [corner for box in boxes for corner in itertools.product(*zip(box.low, box.high))]
+    for (right, upward), ring in zip(planes, outlines(boxes, (0, 0, 0), *planes)):
+        flat = [(geodesy.dot(right, corner) / 1e6, geodesy.dot(upward, corner) / 1e6) for corner in all_corners]
+        assert all(min(math.dist(point, other) for other in flat) < 1e-8 for point in ring)
+        for degrees in range(0, 360, 5):
+            x, y = math.cos(math.radians(degrees)), math.sin(math.radians(degrees))
+            reach, wanted = (max(x * p + y * q for p, q in points) for points in (ring, flat))
+            assert reach == pytest.approx(wanted, rel=0, abs=3e-6)

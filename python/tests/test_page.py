@@ -20,7 +20,8 @@ import chromium
 import pytest
 from made_logs import EXAMPLES, RECORDED, ended_with
 
-from gpscover import Error, geodesy, page, region, summary
+from gpscover import Error, geodesy, page, region, summary, zones
+from gpscover.beside import Beside, ring_of
 from gpscover.log import Rules, calendar
 from gpscover.log import epochs as read_epochs
 from gpscover.outline import outline
@@ -43,6 +44,14 @@ SATS = "".join(
 AT = 6378137 * 10**6
 ROOT = f"root {AT - SIDE} {-SIDE} {-SIDE} {AT + SIDE} {SIDE} {SIDE}\n"
 INNER = f"cut 0 2 {-SIDE // 2}\nsplit 0 0\nout 1\nin 2 0 -1000000 1000000\ndone 1\n"
+# The region of epoch 4 is x from AT to AT + 10 m, y from -5 to 10 m and z from -10 to 10 m. It lies in the first zone,
+# across an end of the second one, above the third one, and in the half-space of the fourth.
+ZONES = (
+    f"gpszones 2\nzone around {AT - SIDE} {-2 * SIDE} {-SIDE} {AT + SIDE} {SIDE} {SIDE}\n"
+    f"zone half {AT} 0 {-SIDE} {AT + SIDE} {SIDE} {SIDE}\n"
+    f"zone below {AT - 2 * SIDE} {-SIDE} {-SIDE} {AT - 1} {SIDE} {SIDE}\n"
+    f"prism endless 1\nside 1 0 0 {AT + SIDE}\nreach up 1 0 0\n"
+)
 # few, empty, a region that reaches, and a number that is left out; 10 s apart
 MADE = (
     HEAD
@@ -128,7 +137,7 @@ class TestParts:
         assert sorted(thinned.texts) == [0, 4, 8]
 
     def test_a_small_room_leaves_the_rows_of_all_epochs(self):
-        collected, broken = page.collect([RECEIVER], 0, math.inf, 20_000)
+        collected, broken = page.collect([RECEIVER], 0, math.inf, 20_000, Beside())
         assert broken is None
         assert len(collected.rows) == 8
         assert collected.size + collected.details.size + collected.boxes.size <= 20_000
@@ -136,11 +145,11 @@ class TestParts:
         assert f"one epoch in {collected.boxes.every}" in next(collected.notes())
 
     def test_no_room_at_all_ends_too(self):
-        assert len(page.collect([RECEIVER], 0, math.inf, 0)[0].rows) == 8
+        assert len(page.collect([RECEIVER], 0, math.inf, 0, Beside())[0].rows) == 8
 
     def test_some_epochs_of_several_logs(self):
         numbers = [epoch.index for epoch in read_epochs(RECEIVER)]
-        collected, _ = page.collect([RECEIVER, VEHICLE], numbers[1], numbers[2], 10**7)
+        collected, _ = page.collect([RECEIVER, VEHICLE], numbers[1], numbers[2], 10**7, Beside())
         wanted = [
             str(epoch.index)
             for log in (RECEIVER, VEHICLE)
@@ -176,6 +185,33 @@ class TestParts:
             for k, side in enumerate(sides):
                 assert max(it[k] for it in ring) - min(it[k] for it in ring) == pytest.approx(side, rel=0, abs=5e-3)
 
+    def test_what_epochs_say_of_zones(self):
+        with tempfile.TemporaryDirectory() as room:
+            path = Path(room, "zones")
+            path.write_text(ZONES, newline="\n")
+            beside = Beside(zones=zones.chosen_zones([path], []))
+            chosen = zones.chosen_zones([path], ["half"])
+        names = ["around", "half", "below", "endless"]
+        assert list(beside.columns()) == [(f"zone {k}", f"zone {name}") for k, name in enumerate(names)]
+        said = [list(beside.cells(epoch, region.region_or_none(epoch))) for epoch in epochs_of(MADE)]
+        # an epoch of few satellites says nothing, and one without a region is outside of everything
+        assert said == [[""] * 4, ["outside"] * 4, ["inside", "open", "outside", "inside"]]
+        assert list(beside.lines())[:2] == [
+            "zone around: outside in 1, inside in 1, open in 0, few 1",
+            "zone half: outside in 1, inside in 0, open in 1, few 1",
+        ]
+        assert [zone.name for zone in chosen] == ["half"]
+
+    def test_the_outline_of_a_zone_on_the_ground(self):
+        around = zones.Corners("a", (AT - SIDE, -SIDE, -2 * SIDE), (AT + SIDE, SIDE, 2 * SIDE))
+        ring = ring_of(around)
+        # 10 m and 20 m along the equator and the meridian, on an ellipsoid of 6378137 m and 6335439.327 m there
+        east, north = (math.degrees(length / radius) for length, radius in ((10, 6378127), (20, 6335429.327)))
+        assert max(longitude for _, longitude in ring) == pytest.approx(east, rel=0, abs=1e-9)
+        assert max(latitude for latitude, _ in ring) == pytest.approx(north, rel=0, abs=1e-9)
+        assert len(ring) == 4
+        assert ring_of(zones.Prism("b", [((0, 1, 0), 0)])) == []
+
     def test_the_azimuth(self):
         place = geodesy.earth_fixed(0.6, 2.4, 100.0)
         east, north, up = geodesy.local_axes(0.6, 2.4)
@@ -184,7 +220,7 @@ class TestParts:
             target = [
                 p + 2e7 * (math.sin(turn) * e + math.cos(turn) * n + u) for p, e, n, u in zip(place, east, north, up)
             ]
-            assert (math.degrees(geodesy.azimuth(place, target)) + 1) % 360 == pytest.approx(
+            assert (math.degrees(geodesy.Frame.at(place).azimuth(target)) + 1) % 360 == pytest.approx(
                 (degrees + 1) % 360, rel=0, abs=5e-7
             )
 
@@ -217,6 +253,22 @@ class TestParts:
     def test_wrong_words(self):
         for words in (["log"], ["a", "b"], ["a", "b.html", "--from", "0"], ["a", "b.html", "--to", "x"]):
             assert ended_with(page, *words)[0] == 2, words
+        assert ended_with(page, "a", "b.html", "--zone", "a")[0] == 2
+
+    def test_files_that_are_none_of_zones_are_refused_as_elsewhere(self):
+        with tempfile.TemporaryDirectory() as room:
+            path, out = Path(room, "zones"), Path(room, "a.html")
+            for text, names, told in (
+                ("gpszones 1\nzone a 0 0 0 1 1\n", [], f"{path}: line 2 doesn't fit"),
+                ("gpszones 2\nreach a 1 0 0\n", [], "no zone"),
+                (ZONES, ["half", "none"], "no zone none in"),
+            ):
+                path.write_text(text, newline="\n")
+                with pytest.raises(Error, match=re.escape(told)):
+                    made(RECEIVER, out, "--zones", path, *(word for name in names for word in ("--zone", name)))
+                assert not out.exists()
+            with pytest.raises(OSError):
+                made(RECEIVER, out, "--zones", Path(room, "absent"))
 
 
 class TestFiles:
@@ -444,6 +496,42 @@ class TestInTheBrowser:
             self.run_js("[...document.querySelectorAll('#table tbody tr')].map((it) => it.cells[15].textContent)")
             == ["yes"] * 8
         )
+
+    def test_zones_are_in_the_table_and_on_the_map(self):
+        Path(self.room, "zones").write_text(ZONES, newline="\n")
+        made(self.logs["made"], f"{self.room}/zoned.html", "--zones", f"{self.room}/zones")
+        self.open("zoned")
+        column = "[...document.querySelectorAll('#table tbody tr')].map((it) => it.cells[16].textContent)"
+        assert self.run_js(column) == ["", "outside", "open"]
+        self.run_js("document.querySelector('#table th[data-column=\"zone 1\"] button').click()")
+        assert self.run_js(column) == ["open", "outside", ""]
+        drawn = "document.getElementById('map').data.filter((it) => it.name)"
+        told = f"{drawn}.map((it) => [it.name, it.hovertext?.[0] ?? ''])"
+        said, fences = "inside: around, endless<br>open: half", [["around", ""], ["half", ""], ["below", ""]]
+        assert self.run_js(told) == [["inside of a zone", said], *fences]
+        choice = "document.getElementById('zone')"
+        self.run_js(f"({choice}.value = 'zone 2', {choice}.dispatchEvent(new Event('change')))")
+        assert self.run_js(told) == [["outside of below", said], *fences]
+        self.run_js("document.querySelectorAll('#table tbody tr')[0].click()")
+        assert "zone endlessinside" in self.run_js("document.getElementById('values').textContent")
+        assert self.run_js("document.getElementById('map').data.at(-1).x.length") == 6
+        kept = "[...document.getElementById('filter').options].map((it) => it.value)"
+        assert self.run_js(kept) == [
+            "all",
+            "region",
+            "empty",
+            "few",
+            "reaches",
+            "zone 0 inside",
+            "zone 0 outside",
+            "zone 1 open",
+            "zone 1 outside",
+            "zone 2 outside",
+            "zone 3 inside",
+            "zone 3 outside",
+        ]
+        if os.environ.get("GPSCOVER_SCREENS"):
+            self.browser.draw(f"{os.environ['GPSCOVER_SCREENS']}/zoned.png")
 
     def test_the_arrow_keys_go_on_behind_a_jump(self):
         self.open("receiver")

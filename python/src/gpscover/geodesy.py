@@ -99,14 +99,17 @@ class Frame:
         x, y, z = (o + d for o, d in zip(self.origin, self.direction(offset)))
         return x, y, z
 
+    def elevation(self, target: Sequence[float]) -> float:
+        """The angle at which a point is seen above the horizon of the origin; 0 where they are one."""
+        sine = self.offset(target)[2] / (math.dist(target, self.origin) or 1.0)
+        return math.asin(max(-1.0, min(1.0, sine)))
+
+    def azimuth(self, target: Sequence[float]) -> float:
+        """The direction along the horizon of the origin in which a point is seen: from north over east, 0 to 2 pi."""
+        east, north, _ = self.offset(target)
+        return math.atan2(east, north) % (2 * math.pi)
+
 
 def elevation(place: Vector, target: Sequence[float]) -> float:
     """The angle at which `target` is seen above the horizon of `place`; 0 where they are one."""
-    sine = Frame.at(place).offset(target)[2] / (math.dist(target, place) or 1.0)
-    return math.asin(max(-1.0, min(1.0, sine)))
-
-
-def azimuth(place: Vector, target: Sequence[float]) -> float:
-    """The direction along the horizon of `place` in which `target` is seen: from north over east, 0 to 2 pi."""
-    east, north, _ = Frame.at(place).offset(target)
-    return math.atan2(east, north) % (2 * math.pi)
+    return Frame.at(place).elevation(target)

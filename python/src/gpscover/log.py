@@ -371,7 +371,7 @@ class Fold:
     def __init__(self, epoch: Epoch, root: Box) -> None:
         self.epoch, self.rows = epoch, epoch.rows
         self.live: dict[int, list[int]] = {0: list(root)}
-        self.following, self.steps = 1, 0
+        self.following = 1
 
     def close(self, words: list[str]) -> None:
         """Closes a box by an `in`, `edge` or `out` line."""
@@ -392,39 +392,40 @@ class Fold:
         self.live[following], self.live[following + 1] = low, high
         self.following = following + 2
 
-    def step(self, words: list[str]) -> None:
-        """Takes a step. Most of a log are cuts, which give a box a new end at one of its faces."""
-        if words[0] == "cut":
-            _, identity, face, bound = words
-            if len(bound) > LONGEST:
-                raise ValueError
-            self.live[int(identity)][END_OF_FACE[face]] = int(bound)
-        elif words[0] == "split":
-            _, identity, axis = words
-            self.halve(int(identity), AXES[axis])
-        else:
-            self.close(words)
-        self.steps += 1
-
-    def renew(self, words: list[str], lines: Iterator[str]) -> None:
+    def renew(self, steps: int, words: list[str], lines: Iterator[str]) -> None:
         """Takes the box of a `renew` line and the rows behind it, one a usable satellite."""
         box = box_of(wholes(words[1:], 6))
         self.rows = [row_of(next_words(lines)) for _ in range(self.epoch.satellites)]
-        self.epoch.renewals.append(Renewal(self.steps, box, self.rows))
+        self.epoch.renewals.append(Renewal(steps, box, self.rows))
 
 
 def fold_steps(epoch: Epoch, root: Box, lines: Iterator[str], renews: bool) -> None:
-    """Takes the lines behind `root` up to `done`. Rows may be renewed where `renews` says so."""
+    """Takes the lines behind `root` up to `done`. Rows may be renewed where `renews` says so.
+
+    Most of a log are cuts, which give a box a new end at one of its faces. They are taken here and not by a call.
+    """
     fold = Fold(epoch, root)
-    for line in lines:
+    live, close, halve = fold.live, fold.close, fold.halve
+    for count, line in enumerate(lines):
         words = line.split(" ")
-        if words[0] == "done":
+        kind = words[0]
+        if kind == "cut":
+            _, identity, face, bound = words
+            if len(bound) > LONGEST:
+                raise ValueError
+            live[int(identity)][END_OF_FACE[face]] = int(bound)
+        elif kind == "split":
+            _, identity, axis = words
+            halve(int(identity), AXES[axis])
+        elif kind in CLOSING:
+            close(words)
+        elif kind == "renew" and renews:
+            fold.renew(count - len(epoch.renewals), words, lines)
+        elif kind == "done":
             (epoch.splits,) = wholes(words[1:], 1)
             return
-        if words[0] == "renew" and renews:
-            fold.renew(words, lines)
         else:
-            fold.step(words)
+            raise ValueError
     raise EOFError
 
 

@@ -1,7 +1,7 @@
 """Makes one HTML file of a log of gpscover, to look at in any browser without a network.
 
-usage: gpslog page LOG [LOG ..] OUT.html [--settings FILE] [--places FILE [--limit H V]] [--from N]
-[--to N] [--title TEXT]
+usage: gpslog page LOG [LOG ..] OUT.html [--settings FILE] [--places FILE [--limit H V]]
+[--zones ZONES.. [--zone NAME]..] [--from N] [--to N] [--title TEXT]
 
 The page has a table and a time line of all epochs with the numbers of `gpslog summary`; of an epoch
 that is chosen its boxes in three dimensions, the outline of all its boxes from three sides, the sky
@@ -9,8 +9,9 @@ with its satellites, the declared errors and the satellites that aren't used wit
 sheet with the outline of each region in latitude and longitude; and the settings, if they are
 given. A click on a head of the table sorts it. With a list of known places the table has of each epoch
 whether its region holds the place, and the farthest corner from it along the ground, and up or down, as
-`gpslog summary --places` has them. Several logs are the parts of one file in their order. Of files the
-page has the names, and not where they stand.
+`gpslog summary --places` has them. With files of zones it has what each epoch says of each zone, or of
+those that --zone names (`gpslog answers`), and the map sheet has their outlines. Several logs are the
+parts of one file in their order. Of files the page has the names, and not where they stand.
 
 The page is kept below 30 MB. Table and time line have every epoch. Where the rest is too much,
 boxes, and then sky, outlines and errors, are those of every 2nd, 4th, 8th .. epoch: page and
@@ -41,16 +42,18 @@ from collections.abc import Iterable, Iterator, Sequence
 from pathlib import Path
 from typing import Any
 
+from gpscover.beside import Beside
 from gpscover.command import Command, absent, name_ending, whole_file
 from gpscover.errors import Error, LogError, UsageError
-from gpscover.geodesy import Vector, azimuth, elevation
+from gpscover.geodesy import Frame, Vector
 from gpscover.integrity import Judge, Limits, limit_argument
 from gpscover.kml import ground_ring
 from gpscover.log import UM_PER_M, Box, Epoch, PathLike, Rules, epochs, rules_of
-from gpscover.outline import Flat, offsets_of, outer_corners, outline_of
+from gpscover.outline import Flat, outlines
 from gpscover.places import Meetings
-from gpscover.region import Region, hull_of, region_or_none, upward
+from gpscover.region import Region, hull_of, region_or_none
 from gpscover.summary import COLUMNS, Totals, csv_line, mark_of, text_cells
+from gpscover.zones import chosen_zones, zone_arguments
 
 PARTS = Path(__file__).resolve().parent / "page_parts"
 PAGE_LIMIT = 29_000_000  # bytes, so that a page stays below 30 MB
@@ -74,7 +77,6 @@ CELLS = (  # the columns of text_cells, by name and title
     ("mark", "mark"),
     ("faces", "faces"),
 )
-PLACE_CELLS = (("held", "held"), ("hpl", "hpl m"), ("vpl", "vpl m"))  # with known places
 CERTIFIED = ("certified", "certified")  # a column where an epoch has lengths by certified bounds
 MARK_WORDS = {
     "": "",
@@ -171,11 +173,12 @@ def metres(um: int) -> float:
 def satellites_of(epoch: Epoch, place: Vector) -> Iterator[list[Any]]:
     """Name, elevation and azimuth in degrees as seen from a place, and the ends of what is declared
     of the error in m."""
+    frame = Frame.at(place)
     for row in epoch.rows:
         there = [(low + high) / 2 / UM_PER_M for low, high in row.place]
         angles: list[float | None] = [None, None]
         if there != list(place):
-            angles = [round(math.degrees(angle), 2) for angle in (elevation(place, there), azimuth(place, there))]
+            angles = [round(math.degrees(angle), 2) for angle in (frame.elevation(there), frame.azimuth(there))]
         yield [row.satellite, *angles, *(metres(end) for end in row.error + row.sure)]
 
 
@@ -186,8 +189,8 @@ def rounded(points: Iterable[Flat], digits: int) -> list[list[float]]:
 
 def outlines_of(epoch: Epoch, region: Region) -> list[list[Flat]]:
     """The outlines of all kept boxes in m: east and north, east and up, north and up."""
-    corners, (east, north, up) = offsets_of(outer_corners(epoch.boxes), region.origin), region.axes
-    return [outline_of(corners, *pair) for pair in ((east, north), (east, up), (north, up))]
+    east, north, up = region.axes
+    return outlines(epoch.boxes, region.origin, (east, north), (east, up), (north, up))
 
 
 def detail(epoch: Epoch, region: Region | None, mark: str) -> str:
@@ -217,9 +220,9 @@ def detail(epoch: Epoch, region: Region | None, mark: str) -> str:
 class Collected:
     """What is taken from the logs for the page, in as many bytes as are left for it."""
 
-    def __init__(self, room: int, judge: Judge | None = None) -> None:
-        self.room, self.judge = room, judge
-        self.cells = CELLS + (PLACE_CELLS if judge else ())
+    def __init__(self, room: int, beside: Beside) -> None:
+        self.room, self.beside = room, beside
+        self.cells = [*CELLS, *beside.columns()]
         self.rows: list[list[str]] = []
         self.size = 0
         self.certified: list[str] = []  # of each epoch 1 or an empty text
@@ -237,7 +240,7 @@ class Collected:
             cells
             + [""] * (len(CELLS) - 2 - len(cells))
             + [mark, " ".join(region.faces) if region else ""]
-            + self.known(epoch, region)
+            + list(self.beside.cells(epoch, region))
         )
         self.certified.append("1" if region and region.certified else "")
         self.size += len(to_json([*self.rows[-1], self.certified[-1]]))
@@ -246,15 +249,6 @@ class Collected:
         if region and self.details.wants(position) and self.boxes.wants(position):
             self.boxes.add(position, packed_boxes(epoch, region))
         self.thin()
-
-    def known(self, epoch: Epoch, region: Region | None) -> list[str]:
-        """What is said of the epoch's known place."""
-        if self.judge is None:
-            return []
-        found = self.judge.add(epoch, region)
-        if found is None:
-            return [""] * len(PLACE_CELLS)
-        return ["yes" if found.held else "no", f"{upward(found.hpl):.1f}", f"{upward(found.vpl):.1f}"]
 
     def thin(self) -> None:
         """Thins out what is larger, until all fits; no boxes are kept of an epoch whose detail isn't."""
@@ -285,11 +279,11 @@ class Collected:
 
 
 def collect(
-    paths: Sequence[PathLike], first: float, last: float, room: int, judge: Judge | None = None
+    paths: Sequence[PathLike], first: float, last: float, room: int, beside: Beside
 ) -> tuple[Collected, str | None]:
     """What the logs have of the epochs from a number to another, and the line for a log that ends
     too early, or None."""
-    collected = Collected(room, judge)
+    collected = Collected(room, beside)
     try:
         for path in paths:
             for epoch in epochs(path):
@@ -317,15 +311,15 @@ def page_data(
     """What the page's script needs, but for details and boxes."""
     warnings = [f"{broken}; the page has the epochs before"] if broken else []
     warnings += settings_differ(settings, rules) if settings else []
-    judge = collected.judge
-    said = [*collected.totals.warnings(), *(judge.warnings() if judge else ())]
-    cells, rows = list(collected.cells), collected.rows
+    beside = collected.beside
+    said = [*collected.totals.warnings(), *beside.warnings()]
+    cells, rows = collected.cells, collected.rows
     if any(collected.certified):
         cells, rows = [*cells, CERTIFIED], [[*row, word] for row, word in zip(rows, collected.certified)]
     return {
         "logs": [Path(name).name for name in args.log],
         "rules": {"q": rules.outliers, "splits": rules.splits, "width": metres(rules.width)},
-        "lines": [collected.totals.line(), *(judge.lines() if judge else ()), *(f"warning: {each}" for each in said)],
+        "lines": [collected.totals.line(), *beside.lines(), *(f"warning: {each}" for each in said)],
         "warnings": warnings,
         "notes": list(collected.notes()),
         "every": {"details": collected.details.every, "boxes": collected.boxes.every},
@@ -333,6 +327,7 @@ def page_data(
         "columns": [[name, title] for name, title in cells],
         "table": {name: [row[k] for row in rows] for k, (name, _) in enumerate(cells)},
         "marks": MARK_WORDS,
+        "zones": beside.drawn(),
         "settings": settings,
         "settingsName": Path(args.settings).name if args.settings else None,
     }
@@ -363,6 +358,14 @@ def plotly_script() -> str:
     return script
 
 
+def beside_of(args: argparse.Namespace) -> Beside:
+    """The known places and the zones that the words name."""
+    judge = None
+    if args.places:
+        judge = Judge(Meetings.of(args.places), limits=Limits(*args.limit) if args.limit else None)
+    return Beside(judge, chosen_zones(args.zones, args.zone) if args.zones else [])
+
+
 def make_page(args: argparse.Namespace) -> str | None:
     """Reads the logs and writes the page. The line for a log that ends too early, or None."""
     parts = {name: (PARTS / name).read_text(encoding="utf-8") for name in ("page.html", "page.css", "page.js")}
@@ -370,12 +373,10 @@ def make_page(args: argparse.Namespace) -> str | None:
     rules = rules_of(args.log[0])
     settings = Path(args.settings).read_text(encoding="utf-8", errors="replace") if args.settings else None
     room = PAGE_LIMIT - sum(len(part.encode()) for part in parts.values())
-    judge = None
-    if args.places:
-        judge = Judge(Meetings.of(args.places), limits=Limits(*args.limit) if args.limit else None)
-    collected, broken = collect(args.log, args.first or 0, args.last or math.inf, room, judge)
-    if judge:
-        judge.meetings.refuse_strangers()
+    beside = beside_of(args)
+    collected, broken = collect(args.log, args.first or 0, args.last or math.inf, room, beside)
+    if beside.judge:
+        beside.judge.meetings.refuse_strangers()
     data = page_data(args, collected, rules, settings, broken)
     data["figures"] = json.loads((PARTS / "figures.json").read_text(encoding="utf-8"))
     title = args.title or f"Regions of {', '.join(Path(name).name for name in args.log)}"
@@ -401,6 +402,7 @@ def arguments(parser: argparse.ArgumentParser) -> None:
     parser.add_argument("--settings", metavar="FILE", help="the settings of the run, to be shown")
     parser.add_argument("--places", metavar="FILE", help="a list of known places")
     limit_argument(parser)
+    zone_arguments(parser, required=False)
     parser.add_argument("--from", type=number, dest="first", metavar="N", help="the first epoch that is taken")
     parser.add_argument("--to", type=number, dest="last", metavar="N", help="the last epoch that is taken")
     parser.add_argument("--title", metavar="TEXT")
@@ -410,6 +412,8 @@ def run(args: argparse.Namespace) -> int:
     """Writes the page. The status."""
     if args.limit and not args.places:
         raise UsageError("--limit needs --places")
+    if args.zone and not args.zones:
+        raise UsageError("--zone needs --zones")
     broken = make_page(args)
     if broken:
         raise Error(f"{broken}; the page has the epochs before")

@@ -29,10 +29,12 @@ drawn beside these. The origin is the middle of the first region.
 boxes say of it (`gpslog answers`), with how many epochs say what. A prism is drawn as the hull of
 its corners, and not at all where it has none.
 
-`integrity` draws an epoch as a point, as the Stanford diagram does, along the ground and up: how
-far the region's middle is from the known place, and how far its farthest corner is from its middle,
+`integrity` counts epochs by cells, as the Stanford diagram does, along the ground and up: how far
+the region's middle is from the known place, and how far its farthest corner is from its middle,
 which is the protection. Below the diagonal the region is misleading. --limit has two alert limits
-in metres along the ground and up.
+in metres along the ground and up: above its limit a panel has what is unavailable, and below it, from
+the limit on, what is hazardously misleading. Each area has the number of its epochs and their part of
+all. What the search box cuts protects nothing: it is unavailable, in the uppermost cells.
 
 `observed` draws the part of its declared bound that each satellite used in each epoch at a known
 place (`gpslog observed`), by elevation and as a histogram: 0 is the bound's middle, and 1 and -1 are
@@ -58,19 +60,30 @@ from typing import Any, TypeVar
 from gpscover.command import Command, absent, measure, name_ending, work_of
 from gpscover.errors import Error
 from gpscover.geodesy import Frame, Vector, dot
-from gpscover.integrity import Judge, Limits, Numbers, in_um, limit_argument
+from gpscover.integrity import Judge, Limits, in_um, limit_argument
 from gpscover.log import PS_PER_MS, UM_PER_M, Box, Epoch, PathLike, calendar, epochs
 from gpscover.observed import Found, meetings_of, observed, place_words, share
 from gpscover.outline import Flat, convex_hull, outline
 from gpscover.places import Meetings
 from gpscover.region import Extent, Region, extent_along, half_sides, offsets, reaches, region_of, region_or_none
 from gpscover.region import touched_faces, upward
-from gpscover.shapes import corners
-from gpscover.zones import Corners, Reach, Zone, read_zones
+from gpscover.shapes import points_of
+from gpscover.stanford import (
+    AVAILABLE,
+    BOTH,
+    HAZARDOUS,
+    MISLEADING,
+    UNAVAILABLE,
+    Diagram,
+    Judged,
+    diagram_of,
+    judged_of,
+)
+from gpscover.stanford import share as counted
+from gpscover.zones import Zone, chosen_zones, sides_of, zone_arguments
 
 T = TypeVar("T")
 Gathered = TypeVar("Gathered", "Course", "Tube", "Fenced")
-Judged = tuple[Numbers, bool]  # of an epoch, and whether the search box cuts its region
 
 EDGE_COLOUR, INNER_COLOUR, PLACE_COLOUR, BAND_COLOUR = "#f4b183", "#548235", "#c00000", "#9dc3e6"
 CUT_COLOUR, EMPTY_COLOUR, LIMIT_COLOUR, EDGE_LINE_COLOUR = "#b36bd4", "#d9d9d9", "#404040", "#1f5f99"
@@ -110,8 +123,9 @@ def with_note(title: str, note: str | None, before: str = "\n") -> str:
 
 
 def finish(figure: Any, legend: list[Any], out: str, place: str = "lower center", rect: Any = (0, 0.04, 1, 1)) -> None:
-    """Gives a picture its legend below the panels, lays these out within a part of it, and writes it."""
-    figure.legend(handles=legend, loc=place, ncol=len(legend))
+    """Gives a picture its legend below the panels, if any, lays these out within a part of it, and writes it."""
+    if legend:
+        figure.legend(handles=legend, loc=place, ncol=len(legend))
     figure.tight_layout(rect=rect)
     save(figure, out)
 
@@ -502,7 +516,7 @@ class Fenced:
         boxes = epoch.boxes
         if boxes and self.frame is None:
             self.frame = Frame.at(region_of(epoch).middle())
-        bounds = [(bound.direction, bound.most) for bound in epoch.bounds]
+        bounds = sides_of(epoch)
         self.answers.append([fence.answer(boxes, bounds) for fence in self.fences])
         self.rings.append(ring_above(self.frame, boxes) if boxes and self.frame else None)
         if place is not None and self.frame is not None:
@@ -512,13 +526,7 @@ class Fenced:
         """The outline of a zone; none before the first region."""
         if self.frame is None:
             return []
-        if isinstance(fence, Corners):
-            return ring_above(self.frame, [Box(*fence.low, *fence.high)])
-        points = [
-            (x / divisor / UM_PER_M, y / divisor / UM_PER_M, z / divisor / UM_PER_M)
-            for x, y, z, divisor in corners(fence.sides)
-        ]
-        return convex_hull([self.frame.offset(point)[:2] for point in points])
+        return convex_hull([self.frame.offset(point)[:2] for point in points_of(fence)])
 
     def title(self, number: int) -> str:
         """How many epochs say what of a zone."""
@@ -575,13 +583,8 @@ def draw_fences(fenced: Fenced, out: str, note: str | None) -> None:
 
 
 def fences_of(paths: Sequence[PathLike], names: Sequence[str]) -> list[Zone]:
-    """The zones of some files, or those with these names."""
-    things = [thing for path in paths for thing in read_zones(path)[1]]
-    found = [thing for thing in things if not isinstance(thing, Reach)]
-    unknown = set(names) - {fence.name for fence in found}
-    if unknown or not found:
-        raise Error(f"no zone {' '.join(sorted(unknown))} in {' '.join(map(str, paths))}")
-    found = [fence for fence in found if not names or fence.name in names]
+    """The zones that have a panel each."""
+    found = chosen_zones(paths, names)
     if len(found) > MOST_PANELS:
         raise Error(f"{len(found)} zones: name at most {MOST_PANELS} of them with --zone")
     return found
@@ -596,57 +599,89 @@ def run_zones(args: argparse.Namespace) -> None:
     draw_fences(fenced, args.out, args.note)
 
 
-POINTS = (  # what a point of the diagram is, and its colour; the first that it is
-    ("the place isn't in the region", PLACE_COLOUR),
-    ("the search box cuts the region", CUT_COLOUR),
-    ("the region holds the place", INNER_COLOUR),
-)
+MANY_CELLS = 200  # in an SVG more than these are drawn as dots
+BAR = 0.035  # how wide the bar of colours beside two panels is, of one of them
 
 
-def point_kind(numbers: Numbers, cut: bool) -> tuple[str, str]:
-    """Which of POINTS an epoch is."""
-    return POINTS[0] if not numbers.held else POINTS[1] if cut else POINTS[2]
+def panel_areas(limit: float | None, end: float) -> dict[str, tuple[list[Flat], tuple[str, float], Flat]]:
+    """Of each area of a panel its corners, its colour and how dense this is, and where its name ends on the right."""
+    a, e = limit, end
+    if a is None:
+        return {
+            AVAILABLE: ([(0, 0), (e, e), (0, e)], (INNER_COLOUR, 0.08), (0.78 * e, 0.88 * e)),
+            UNAVAILABLE: ([(0, 0.98 * e), (e, 0.98 * e), (e, e), (0, e)], (LIMIT_COLOUR, 0.08), (0.9 * e, 0.98 * e)),
+            MISLEADING: ([(0, 0), (e, 0), (e, e)], (PLACE_COLOUR, 0.10), (0.98 * e, 0.12 * e)),
+        }
+    return {
+        AVAILABLE: ([(0, 0), (a, a), (0, a)], (INNER_COLOUR, 0.08), (0.84 * a, 0.97 * a)),
+        UNAVAILABLE: ([(0, a), (a, a), (e, e), (0, e)], (LIMIT_COLOUR, 0.08), (0.88 * e, 0.97 * e)),
+        MISLEADING: ([(0, 0), (a, 0), (a, a)], (PLACE_COLOUR, 0.10), (0.97 * a, 0.15 * a)),
+        BOTH: ([(a, a), (e, a), (e, e)], (CUT_COLOUR, 0.15), (0.985 * e, a + 0.36 * (e - a))),
+        HAZARDOUS: ([(a, 0), (e, 0), (e, a), (a, a)], (PLACE_COLOUR, 0.30), (0.985 * e, 0.56 * a)),
+    }
 
 
-def diagram_end(points: list[Judged], limit: float | None, k: int) -> float:
-    """How far both axes of a panel reach."""
-    lengths = [length for numbers, _ in points for length in (numbers.error[k], numbers.reach[k])]
-    return 1.08 * max(lengths + ([limit] if limit is not None else []))
+def draw_areas(axes: Any, diagram: Diagram, limit: float | None) -> None:
+    """Draws the areas of a panel with their names, and how many epochs are in each."""
+    from matplotlib import patheffects
 
-
-def draw_limit(axes: Any, limit: float, end: float) -> None:
-    """Draws an alert limit along both axes of a panel, and where it is hazardous."""
-    axes.axhline(limit, color=LIMIT_COLOUR, linewidth=1, linestyle="--")
-    axes.axvline(limit, color=LIMIT_COLOUR, linewidth=1, linestyle="--")
-    axes.fill_between([limit, end], [limit, limit], color=PLACE_COLOUR, alpha=0.25, linewidth=0)
-    text = {"ha": "right", "va": "bottom", "color": LIMIT_COLOUR, "fontsize": 9}
-    axes.text(0.97 * end, limit, f"unavailable above {limit:g} m", **text)
-
-
-def draw_diagram(axes: Any, points: list[Judged], k: int, limit: float | None) -> None:
-    """Draws one panel: the error across and the protection up, with the diagonal and the limit."""
-    end = diagram_end(points, limit, k)
-    axes.fill_between([0, end], [0, end], color=PLACE_COLOUR, alpha=0.10, linewidth=0)
-    area = "misleading" if limit is None else "misleading; hazardous where dark"
-    axes.text(0.97 * end, 0.03 * end, area, ha="right", va="bottom", color=PLACE_COLOUR, fontsize=9)
-    for name, colour in POINTS:
-        shown = [(it.error[k], it.reach[k]) for it, cut in points if point_kind(it, cut) == (name, colour)]
-        if shown:
-            axes.scatter(*zip(*shown), s=14, color=colour, linewidths=0, label=f"{len(shown)}: {name}", zorder=3)
+    total = sum(diagram.cells.values())
+    halo = [patheffects.withStroke(linewidth=2.5, foreground="white")]
+    text = {"ha": "right", "va": "top", "fontsize": 8, "color": "black", "path_effects": halo, "zorder": 5}
+    for name, (ring, (colour, alpha), place) in panel_areas(limit, diagram.ends[-1]).items():
+        axes.fill(*zip(*ring), color=colour, alpha=alpha, linewidth=0)
+        lines = name.replace(" misleading", "\nmisleading")
+        axes.text(*place, f"{lines}\n{counted(diagram.areas[name], total)}", **text)
     if limit is not None:
-        draw_limit(axes, limit, end)
-    axes.set(xlim=(0, end), ylim=(0, end), aspect="equal")
+        style = {"color": LIMIT_COLOUR, "linewidth": 1, "linestyle": "--"}
+        axes.axhline(limit, **style)
+        axes.axvline(limit, **style)
 
 
-def draw_integrity(judge: Judge, points: list[Judged], out: str, note: str | None) -> None:
+def draw_cells(axes: Any, diagram: Diagram, norm: Any) -> Any:
+    """Draws the cells in the colours of their counts, and round those with epochs of a kind a line. The cells."""
+    _, collections = tools()
+    cells = sorted(diagram.cells)
+    style = {"norm": norm, "zorder": 3, "rasterized": len(cells) > MANY_CELLS}
+    squares = collections.PolyCollection([diagram.square(cell) for cell in cells], **style)
+    squares.set_array([diagram.cells[cell] for cell in cells])
+    axes.add_collection(squares)
+    kinds = (diagram.cut, CUT_COLOUR, "the search box cuts the region"), (
+        diagram.lost,
+        PLACE_COLOUR,
+        "the place isn't in it",
+    )
+    for counts, colour, name in kinds:
+        if sum(counts.values()):
+            ringed = [diagram.square(cell) for cell in sorted(counts) if counts[cell]]
+            label = f"{sum(counts.values()):,}: {name}"
+            style = {"facecolors": "none", "edgecolors": colour, "linewidths": 1.2, "zorder": 4}
+            axes.add_collection(collections.PolyCollection(ringed, label=label, **style))
+    return squares
+
+
+def draw_integrity(judge: Judge, diagrams: list[Diagram], out: str, note: str | None) -> None:
     """Draws the errors and the protections along the ground and up."""
-    figure, panels = tools()[0].subplots(1, 2, figsize=(10, 6))
+    from matplotlib import colors, ticker
+
+    figure, (*panels, beside) = tools()[0].subplots(1, 3, figsize=(11.4, 6.4), width_ratios=(1, 1, BAR))
     limits = (None, None) if judge.limits is None else (judge.limits.horizontal, judge.limits.vertical)
-    for k, (axes, name) in enumerate(zip(panels, ("along the ground", "up or down"))):
-        draw_diagram(axes, points, k, limits[k])
+    most = max(max(diagram.cells.values()) for diagram in diagrams)
+    norm = colors.LogNorm(1, max(most, 10))
+    for axes, diagram, limit, name in zip(panels, diagrams, limits, ("along the ground", "up or down")):
+        draw_areas(axes, diagram, limit)
+        squares = draw_cells(axes, diagram, norm)
+        end = diagram.ends[-1]
+        axes.set(xlim=(0, end), ylim=(0, end), aspect="equal", axisbelow=True)
         axes.set(xlabel=f"error of the region's middle {name}, m", ylabel=f"protection {name}, m")
+    beside.set_box_aspect(1 / BAR)
+    beside.grid(False)
+    ticks = ticker.LogLocator(subs=(1, 2, 5))
+    figure.colorbar(squares, cax=beside, label="epochs in a cell", ticks=ticks, format="{x:,.0f}").minorticks_off()
     last = f"of declared bounds, not of a probability{by_bounds(judge.certified)}"
     title = "\n".join([judge.held_line(), *judge.limit_lines(), last])
+    if sum(diagram.beyond for diagram in diagrams):
+        title += "; what is longer than an axis is in its last cell"
     figure.suptitle(with_note(title, note), fontsize=10)
     finish(figure, legend_of(panels[0]), out, rect=(0, 0.07, 1, 1))
 
@@ -655,16 +690,18 @@ def run_integrity(args: argparse.Namespace) -> None:
     """Draws errors against protection."""
     limits = Limits(*args.limit) if args.limit else None
     judge = Judge(Meetings.of(args.places), limits=limits)
-    points: list[Judged] = []
+    found: list[tuple[Judged, Judged]] = []
     for epoch in epochs(args.log):
         region = region_or_none(epoch)
         numbers = judge.add(epoch, region)
         if numbers is not None and region is not None:
-            points.append((numbers, bool(region.faces)))
+            found.append(judged_of(numbers, bool(region.faces)))
     judge.meetings.refuse_strangers()
-    if not points:
+    if not found:
         raise Error(f"{args.log} has no region at a known place")
-    draw_integrity(judge, points, args.out, args.note)
+    pair = (limits.horizontal, limits.vertical) if limits else (None, None)
+    diagrams = [diagram_of(judged, limit) for judged, limit in zip(zip(*found), pair)]
+    draw_integrity(judge, diagrams, args.out, args.note)
 
 
 def draw_observed(found: list[Found], out: str, note: str | None) -> None:
@@ -720,8 +757,7 @@ def arguments(parser: argparse.ArgumentParser) -> None:
     region.add_argument("--place", type=measure, nargs=3, metavar=("X", "Y", "Z"), help="a known place, m")
     time.add_argument("--moving", action="store_true", help="round the place of each epoch")
     track.add_argument("--beside", metavar="LOG", help="another log, whose regions' lengths are drawn too")
-    fenced.add_argument("--zones", metavar="ZONES", nargs="+", required=True, help="files of zones")
-    fenced.add_argument("--zone", metavar="NAME", action="append", default=[], help="a zone that is drawn (all)")
+    zone_arguments(fenced, required=True)
     limit_argument(integrity)
 
 

@@ -107,6 +107,7 @@ def region_of(epoch: Epoch, origin: Sequence[float] | None = None) -> Region:
     frame = Frame.at((x, y, z))
     centres = offsets(boxes, origin_um)
     halves = [half_sides(box) for box in boxes]
+    volume = sum(8 * p * q * r for p, q, r in halves)
     corners = corners_of(epoch.bounds, frame.origin)
     if corners:
         centres, halves = corners, [(0.0, 0.0, 0.0)] * len(corners)
@@ -117,7 +118,7 @@ def region_of(epoch: Epoch, origin: Sequence[float] | None = None) -> Region:
         frame.axes,
         (east, north, up),
         (min(lows) / UM_PER_M, max(highs) / UM_PER_M),
-        sum(8 * p * q * r for p, q, r in map(half_sides, boxes)),
+        volume,
         touched_faces(hull, epoch.search),
         corners,
     )

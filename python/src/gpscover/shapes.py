@@ -47,10 +47,10 @@ from typing import Any
 from gpscover.command import Command, measure
 from gpscover.errors import Error
 from gpscover.geodesy import Frame, Vector, cross, earth_fixed, geodetic, local_axes, whole_product
-from gpscover.log import PathLike, epochs
+from gpscover.log import UM_PER_M, PathLike, epochs
 from gpscover.outline import Flat
 from gpscover.places import Meetings
-from gpscover.zones import GREATEST, LONGEST, Side, Whole
+from gpscover.zones import GREATEST, LONGEST, Corners, Side, Whole, Zone
 
 MOST_SIDES = 16
 LONGEST_NAME = 16
@@ -135,6 +135,15 @@ def corners(sides: Sequence[Side]) -> list[tuple[int, int, int, int]]:
             if all(whole_product(s, point) <= most * abs(divisor) for s, most in sides):
                 found.append((point[0], point[1], point[2], abs(divisor)))
     return found
+
+
+def points_of(zone: Zone) -> list[Vector]:
+    """The corners of a zone in m. A prism may have none."""
+    if isinstance(zone, Corners):
+        ends: Iterable[tuple[int, ...]] = itertools.product(*zip(zone.low, zone.high), [1])
+    else:
+        ends = corners(zone.sides)
+    return [(x / by / UM_PER_M, y / by / UM_PER_M, z / by / UM_PER_M) for x, y, z, by in ends]
 
 
 def shrunk(faces: list[Face]) -> list[Side]:

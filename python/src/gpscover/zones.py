@@ -21,12 +21,13 @@ from __future__ import annotations
 import argparse
 import re
 from collections import Counter
-from collections.abc import Iterable, Iterator, Sequence
+from collections.abc import Callable, Iterable, Iterator, Sequence
 from dataclasses import dataclass
 
 from gpscover.command import Command
 from gpscover.errors import Error
 from gpscover.log import Box, Epoch, PathLike, epochs
+from gpscover.region import hull_of
 
 Whole = tuple[int, int, int]
 Side = tuple[Whole, int]  # (A, H)
@@ -64,11 +65,12 @@ class Corners:
         high = [min(a, b) for a, b in zip(box[3:6], self.high)]
         return any(a > b for a, b in zip(low, high)) or any(is_past(bound, [*low, *high]) for bound in bounds)
 
+    def is_outside(self, boxes: Sequence[Box], bounds: Sequence[Side]) -> bool:
+        return all(self.is_apart(box, bounds) for box in boxes)
+
     def answer(self, boxes: Sequence[Box], bounds: Sequence[Side] = ()) -> str:
         """What boxes (low corner and high corner) say of it, as far as they lie within bounds."""
-        if all(self.is_apart(box, bounds) for box in boxes):
-            return "outside"
-        return "inside" if are_behind(self.faces(), boxes, bounds) else "open"
+        return answer_of(self.is_outside, self.faces(), boxes, bounds)
 
 
 @dataclass
@@ -78,11 +80,12 @@ class Prism:
     name: str
     sides: list[Side]
 
+    def is_outside(self, boxes: Sequence[Box], bounds: Sequence[Side]) -> bool:
+        return all(any(is_beyond(side, box, bounds) for side in self.sides) for box in boxes)
+
     def answer(self, boxes: Sequence[Box], bounds: Sequence[Side] = ()) -> str:
         """What boxes say of it, as far as they lie within bounds."""
-        if all(any(is_beyond(side, box, bounds) for side in self.sides) for box in boxes):
-            return "outside"
-        return "inside" if are_behind(self.sides, boxes, bounds) else "open"
+        return answer_of(self.is_outside, self.sides, boxes, bounds)
 
 
 @dataclass
@@ -109,6 +112,11 @@ def span(a: Whole, box: Sequence[int]) -> Ends:
 
 
 # ---- what bounds leave of a box
+
+
+def sides_of(epoch: Epoch) -> list[Side]:
+    """The bounds of an epoch, as planes."""
+    return [(bound.direction, bound.most) for bound in epoch.bounds]
 
 
 def is_past(side: Side, box: Sequence[int]) -> bool:
@@ -149,6 +157,19 @@ def is_beyond(side: Side, box: Sequence[int], bounds: Sequence[Side]) -> bool:
 def are_behind(sides: Sequence[Side], boxes: Sequence[Box], bounds: Sequence[Side]) -> bool:
     """Whether each box lies behind each of these planes, as far as it lies within bounds."""
     return all(is_beyond(opposite(side), box, bounds) for box in boxes for side in sides)
+
+
+def answer_of(
+    is_outside: Callable[[Sequence[Box], Sequence[Side]], bool],
+    sides: Sequence[Side],
+    boxes: Sequence[Box],
+    bounds: Sequence[Side],
+) -> str:
+    """What boxes say of a zone behind planes, as far as they lie within bounds: the box round all is asked first, which mostly tells."""
+    around = [hull_of(boxes)] if len(boxes) > 1 else boxes
+    if is_outside(around, bounds) or is_outside(boxes, bounds):
+        return "outside"
+    return "inside" if are_behind(sides, around, bounds) or are_behind(sides, boxes, bounds) else "open"
 
 
 # ---- the file
@@ -247,6 +268,22 @@ def read_zones(path: PathLike) -> tuple[bool, list[Thing]]:
     return reader.second, reader.things
 
 
+def chosen_zones(paths: Sequence[PathLike], names: Sequence[str]) -> list[Zone]:
+    """The zones of some files, or those with these names. Error where a name has none, or there is none at all."""
+    things = [thing for path in paths for thing in read_zones(path)[1]]
+    found = [thing for thing in things if not isinstance(thing, Reach)]
+    unknown = set(names) - {zone.name for zone in found}
+    if unknown or not found:
+        raise Error(f"no zone {' '.join(sorted(unknown))} in {' '.join(map(str, paths))}")
+    return [zone for zone in found if not names or zone.name in names]
+
+
+def zone_arguments(parser: argparse.ArgumentParser, required: bool) -> None:
+    """The words of files of zones and of some names in them."""
+    parser.add_argument("--zones", metavar="ZONES", nargs="+", required=required, default=[], help="files of zones")
+    parser.add_argument("--zone", metavar="NAME", action="append", default=[], help="a zone that is drawn (all)")
+
+
 # ---- what is told
 
 
@@ -294,7 +331,7 @@ class Answers:
 def kept(log: Iterable[Epoch]) -> Iterator[Kept]:
     """The number of each epoch, its boxes, and its bounds as sides."""
     for epoch in log:
-        yield epoch.index, None if epoch.few else epoch.boxes, [(b.direction, b.most) for b in epoch.bounds]
+        yield epoch.index, None if epoch.few else epoch.boxes, sides_of(epoch)
 
 
 def lines(second: bool, things: list[Thing], log: Iterable[Kept]) -> Iterator[str]:

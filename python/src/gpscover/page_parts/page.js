@@ -9,6 +9,8 @@ const ROWS_SHOWN = 100;
 const MOST_MARKERS = 2000; // of one kind on the time line and on the map sheet
 const MOST_WIRED = 3000; // boxes whose sides are drawn as lines too
 const EXTENTS = ["east", "north", "up", "clock"];
+const ANSWERS = ["inside", "open", "outside"]; // of a zone; of several the first one counts that one of them has
+const MOST_NAMES = 6; // of zones in what is shown beside the pointer
 // The corners of a box as bits x, y, z, where 1 is the high end; the twelve triangles and the twelve sides between them.
 const TRIANGLES = [[0, 2, 3], [0, 3, 1], [4, 5, 7], [4, 7, 6], [0, 1, 5], [0, 5, 4], [2, 6, 7], [2, 7, 3], [0, 4, 6], [0, 6, 2],
   [1, 3, 7], [1, 7, 5]];
@@ -40,6 +42,30 @@ const allPositions = () => Array.from({ length: count }, (_, k) => k);
 const marked = (mark) => allPositions().filter((k) => table.mark[k] === mark);
 const numberAt = (name, position) => (table[name][position] === "" ? null : Number(table[name][position]));
 
+// ---- what an epoch says of zones
+
+const zonesSaid = (position, answer) => data.zones.filter((zone) => table[zone.column][position] === answer);
+
+function namesOf(zones) {
+  const names = zones.slice(0, MOST_NAMES).map((zone) => zone.name).join(", ");
+  return zones.length > MOST_NAMES ? `${names} and ${zones.length - MOST_NAMES} more` : names;
+}
+
+// The zones that an epoch is inside of, or is open to; where there are none, that it is outside of all.
+function answersText(position) {
+  const said = ANSWERS.slice(0, 2).map((answer) => [answer, zonesSaid(position, answer)]).filter(([, zones]) => zones.length > 0);
+  if (said.length > 0) return said.map(([answer, zones]) => `${answer}: ${namesOf(zones)}`).join("<br>");
+  return zonesSaid(position, "outside").length > 0 ? "outside of all zones" : "";
+}
+
+// A trace that shows beside the pointer what the epochs of its points say of zones.
+function withAnswers(trace) {
+  if (data.zones.length === 0) return trace;
+  const hovertext = trace.customdata.map((position) => (position === null ? "" : answersText(position)));
+  const [shown, rest] = trace.hovertemplate.split("<extra>");
+  return { ...trace, hovertext, hovertemplate: `${shown}<br>%{hovertext}${rest === undefined ? "" : `<extra>${rest}`}` };
+}
+
 // ---- the time line
 
 // All positions, with null where the number of an epoch isn't that behind the one before.
@@ -62,7 +88,7 @@ function overTime(style, name, panel, positions) {
   trace.text = positions.map((position) => (position === null ? "" : table.epoch[position]));
   trace.xaxis = "x";
   trace.yaxis = panel === 0 ? "y" : `y${panel + 1}`;
-  return trace;
+  return withAnswers(trace);
 }
 
 // The positions with a value whose neighbours have none, which a line alone wouldn't show.
@@ -114,7 +140,8 @@ function drawTime() {
 
 // ---- the table of epochs
 
-const isWord = (name) => ["time", "mark", "faces", "held"].includes(name);
+const isZone = (name) => name.startsWith("zone ");
+const isWord = (name) => isZone(name) || ["time", "mark", "faces", "held"].includes(name);
 
 // The rows in the order of a column: those without a value come last, whatever the direction.
 function inOrder(positions) {
@@ -128,9 +155,10 @@ function inOrder(positions) {
   });
 }
 
-// Sorts by a column: the greatest first, and the other way round when it is chosen again.
+// Sorts by a column: the greatest first, but epochs and answers (inside, open, outside) in their order, and the other way
+// round when it is chosen again.
 function sortBy(name) {
-  chosen.down = chosen.by === name ? !chosen.down : name !== "epoch" && name !== "time";
+  chosen.down = chosen.by === name ? !chosen.down : name !== "epoch" && name !== "time" && !isZone(name);
   chosen.by = name;
   drawSortedHead();
   filterRows();
@@ -166,7 +194,7 @@ function rowOf(position) {
   for (const [name] of data.columns) {
     const text = table[name][position];
     const cell = make("td", name === "epoch" ? undefined : text, isWord(name) ? "word" : "");
-    if (name === "mark" && text) cell.classList.add(text);
+    if ((name === "mark" || isZone(name)) && text) cell.classList.add(text);
     if (name === "epoch") {
       const button = make("button", text);
       button.type = "button";
@@ -209,12 +237,24 @@ function showRow() {
   return undefined;
 }
 
-function drawFilter() {
+// What the table may be narrowed to: a name, a text, and which positions it keeps.
+function filters() {
   const marks = [...new Set(table.mark)].filter((mark) => mark !== "").sort();
-  const options = [["all", "all epochs"], ["region", "those with a region"]];
-  marks.forEach((mark) => options.push([mark, `those marked ${mark}`]));
-  if (table.held && table.held.includes("no")) options.push(["lost place", "those that don't hold the known place"]);
-  element("filter").replaceChildren(...options.map(([value, text]) => {
+  const found = [["all", "all epochs", () => true], ["region", "those with a region", (k) => table.edge[k] !== ""]];
+  marks.forEach((mark) => found.push([mark, `those marked ${mark}`, (k) => table.mark[k] === mark]));
+  if (table.held) found.push(["lost place", "those that don't hold the known place", (k) => table.held[k] === "no"]);
+  for (const { column, name } of data.zones) {
+    for (const answer of ANSWERS) {
+      const { words } = data.figures.map.answers[answer];
+      found.push([`${column} ${answer}`, `those ${words} ${name}`, (k) => table[column][k] === answer]);
+    }
+  }
+  return found.filter(([name, , keeps]) => name === "all" || name === "region" || allPositions().some(keeps));
+}
+
+// Fills a choice with values and their texts.
+function fillChoice(id, choices) {
+  element(id).replaceChildren(...choices.map(([value, text]) => {
     const option = make("option", text);
     option.value = value;
     return option;
@@ -223,10 +263,8 @@ function drawFilter() {
 
 function filterRows() {
   const wanted = element("filter").value;
-  const kinds = {
-    all: () => true, region: (k) => table.edge[k] !== "", "lost place": (k) => table.held[k] === "no",
-  };
-  chosen.rows = inOrder(allPositions().filter(kinds[wanted] ?? ((k) => table.mark[k] === wanted)));
+  const [, , keeps] = filters().find(([name]) => name === wanted);
+  chosen.rows = inOrder(allPositions().filter(keeps));
   turnTo(Math.max(0, chosen.rows.indexOf(chosen.position)));
 }
 
@@ -285,7 +323,7 @@ function whyNone(position) {
 }
 
 // The ends of the boxes in steps: six of each.
-function endsOf(packed) {
+function stepsOf(packed) {
   const bytes = Uint8Array.from(atob(packed.ends), (letter) => letter.charCodeAt(0));
   const view = new DataView(bytes.buffer);
   return Array.from({ length: bytes.length / 2 }, (_, k) => view.getUint16(2 * k, true));
@@ -334,7 +372,7 @@ const opacityOf = (number) => 1 - 0.4 ** (1 / (2 * Math.cbrt(number)));
 
 function solidTraces(packed) {
   const { meshes, wire } = data.figures.solid;
-  const ends = endsOf(packed);
+  const ends = stepsOf(packed);
   const traces = [];
   let first = 0;
   packed.counts.forEach((number, kind) => {
@@ -475,8 +513,82 @@ function ringOf(style, positions) {
   return { ...style, y: points.map((point) => point[0]), x: points.map((point) => point[1]) };
 }
 
+function middlesOf(style, positions) {
+  return withAnswers({
+    ...style, y: positions.map((k) => numberAt("latitude", k)), x: positions.map((k) => numberAt("longitude", k)),
+    text: positions.map((k) => table.epoch[k]), customdata: positions,
+  });
+}
+
+// The zones by whose answers the regions on the map sheet are coloured: one, or all of them.
+function colouringZones() {
+  const wanted = element("zone").value;
+  return wanted === "all" ? data.zones : data.zones.filter((zone) => zone.column === wanted);
+}
+
+// The outlines and the middles of regions: all of one colour, or of that of their answers where there are zones.
+function regionTraces(positions) {
+  const { outlines, middles, answers } = data.figures.map;
+  if (data.zones.length === 0) return [ringOf(outlines, positions), middlesOf(middles, positions)];
+  const zones = colouringZones();
+  const answerOf = (k) => ANSWERS.find((answer) => zones.some((zone) => table[zone.column][k] === answer));
+  return ANSWERS.flatMap((answer) => {
+    const said = positions.filter((k) => answerOf(k) === answer);
+    const { color, words } = answers[answer];
+    const name = `${words} ${zones.length === 1 ? zones[0].name : answer === "outside" ? "all zones" : "a zone"}`;
+    const line = ringOf({ ...outlines, line: { ...outlines.line, color }, legendgroup: answer }, said);
+    const dots = { ...middles, marker: { ...middles.marker, color }, name, legendgroup: answer, showlegend: true };
+    return said.length === 0 ? [] : [line, middlesOf(dots, said)];
+  });
+}
+
+function zoneTraces() {
+  return data.zones.filter((zone) => zone.ring.length > 0).map((zone) => {
+    const ring = [...zone.ring, zone.ring[0]];
+    const [y, x] = [0, 1].map((part) => ring.map((point) => point[part]));
+    return { ...data.figures.map.zone, x, y, text: [zone.name], name: zone.name };
+  });
+}
+
+// The least and the greatest latitude, or longitude, of some regions.
+function endsOf(part, positions) {
+  const values = positions.flatMap((k) => data.details[k].ring.map((point) => point[part]));
+  return [values.reduce((a, b) => Math.min(a, b)), values.reduce((a, b) => Math.max(a, b))];
+}
+
+// What an axis of the map sheet shows: the regions, and of the zones what is within a length of these.
+function sheetEnds([low, high], part, length) {
+  const within = (value) => Math.min(Math.max(value, low - length), high + length);
+  const zones = data.zones.flatMap((zone) => zone.ring.map((point) => within(point[part])));
+  const [first, last] = [Math.min(low, ...zones), Math.max(high, ...zones)];
+  const margin = 0.05 * (last - first);
+  return [first - margin, last + margin];
+}
+
+// The ends of both axes of the map sheet, where there are zones: as far beside the regions as these reach.
+function showZones(sheet, shown, stretch) {
+  const [north, east] = [0, 1].map((part) => endsOf(part, shown));
+  const length = Math.max(north[1] - north[0], (east[1] - east[0]) / stretch);
+  sheet.showlegend = true;
+  sheet.yaxis.range = sheetEnds(north, 0, length);
+  sheet.xaxis.range = sheetEnds(east, 1, length * stretch);
+}
+
+function saySheet(shown) {
+  const regions = table.edge.filter((text) => text !== "").length;
+  const which = shown.length === regions ? "each region" : `${shown.length} of ${regions} regions`;
+  const zones = data.zones.length === 0 ? "" : " Zones are dashed, as seen from above; what an epoch says of them goes by all"
+    + " of its boxes, heights too. Double-click to see the whole of them.";
+  return `The outline of all boxes of ${which} on the ground, WGS 84, and the middle of its extents.`
+    + ` Click a middle to see its epoch.${zones}`;
+}
+
+function drawZoneChoice() {
+  element("by-zone").hidden = data.zones.length === 0;
+  fillChoice("zone", [["all", "all zones"], ...data.zones.map(({ column, name }) => [column, name])]);
+}
+
 function drawMap() {
-  const { layout, outlines, middles, chosen: style } = data.figures.map;
   const all = withRing();
   if (all.length === 0) {
     element("map-says").textContent = "No epoch has a region.";
@@ -484,25 +596,26 @@ function drawMap() {
     return;
   }
   const shown = thinned(all);
-  const regions = table.edge.filter((text) => text !== "").length;
-  const which = shown.length === regions ? "each region" : `${shown.length} of ${regions} regions`;
-  element("map-says").textContent = `The outline of all boxes of ${which}`
-    + " on the ground, WGS 84, and the middle of its extents. Click a middle to see its epoch.";
-  const sheet = copy(layout);
-  sheet.yaxis.scaleratio = 1 / Math.cos((Math.PI / 180) * Number(table.latitude[shown[0]]));
-  const dots = {
-    ...middles, y: shown.map((k) => numberAt("latitude", k)), x: shown.map((k) => numberAt("longitude", k)),
-    text: shown.map((k) => table.epoch[k]), customdata: shown,
-  };
-  Plotly.newPlot("map", [ringOf(outlines, shown), dots, ringOf(style, [])], sheet, config);
+  element("map-says").textContent = saySheet(shown);
+  const sheet = copy(data.figures.map.layout);
+  const stretch = 1 / Math.cos((Math.PI / 180) * Number(table.latitude[shown[0]]));
+  sheet.yaxis.scaleratio = stretch;
+  if (data.zones.length > 0) showZones(sheet, shown, stretch);
+  const traces = () => [...regionTraces(shown), ...zoneTraces(), ringOf(data.figures.map.chosen, [])];
+  drawZoneChoice();
+  Plotly.newPlot("map", traces(), sheet, config);
   element("map").on("plotly_click", (event) => choose(event.points[0].customdata));
+  element("zone").addEventListener("change", () => {
+    Plotly.react("map", traces(), sheet, config);
+    drawChosenRing(chosen.position);
+  });
 }
 
 function drawChosenRing(position) {
   if (element("map").hidden) return;
   const has = data.details[position] && data.details[position].ring;
   const ring = ringOf({}, has ? [position] : []);
-  Plotly.restyle("map", { x: [ring.x], y: [ring.y] }, [2]);
+  Plotly.restyle("map", { x: [ring.x], y: [ring.y] }, [element("map").data.length - 1]);
 }
 
 // ---- all together
@@ -558,6 +671,7 @@ function drawTexts() {
     "The log is shown as it stands: gpscover check says whether it is right.",
     "An in box fits at every point, and an edge box may. Neither is more probable than the other.",
     "The middle of a region isn't a position estimate.",
+    ...(data.zones.length > 0 ? ["What epochs say of zones is proved by gpscover guard alone."] : []),
     "A small region that isn't empty shows nothing about the bounds.",
     "Drawn ends of boxes are rounded outward by at most a 65,535th of the region's hull; outlines are rounded to 1 mm.",
     ...data.notes,
@@ -569,7 +683,7 @@ function drawTexts() {
 function start() {
   drawTexts();
   drawSortedHead();
-  drawFilter();
+  fillChoice("filter", filters());
   listenToTable();
   listenToEpoch();
   chosen.rows = allPositions();
