@@ -2,8 +2,9 @@
 
 use crate::rows::{box_at, row_at};
 use arrayvec::ArrayVec;
+use bound_directions::Direction;
 use bound_lines::{BoundHead, bound_at, sum_at};
-use bound_search::{Direction, find_bound};
+use bound_search::find_bound;
 use grid_model::Box3;
 use log_tokens::{Rest, amount, count, is_ended, word};
 use row_sums::shows_half_space;

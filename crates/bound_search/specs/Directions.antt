@@ -1,7 +1,7 @@
 -- A half-space in a direction.
 use Rattle.std.specs.Prelude.{◌≡◌}
 use Rattle.sat_model.specs.declared.half_spaces.HalfSpace.{HalfSpace}
-use Rattle.bound_search.specs.declared.directions.Direction.{Direction}
+use Rattle.bound_directions.specs.declared.direction.Direction.{Direction}
 
 -- its vector is the direction
 abbrev pub IsAlong : Direction → HalfSpace → Type 0

@@ -4,8 +4,8 @@ ghost use Rattle.std.specs.Prelude.{◌<◌, IfSome};
 
 use crate::basis::Basis;
 use crate::constraints::{SCALE, SIDES};
-use crate::directions::Direction;
 use crate::fixed::{ONE, ratio};
+use bound_directions::Direction;
 use sat_model::{RowSum, Term};
 
 /// The greatest multiplier of a sum: with 16 bits a bound is some millimetres further than the exact

@@ -11,12 +11,11 @@
 mod basis;
 mod certificates;
 mod constraints;
-mod directions;
+mod costs;
 mod dual_simplex;
 mod fixed;
 mod needed;
 mod reach;
 mod search;
 
-pub use directions::Direction;
 pub use search::{Bound, bound_from_forms, find_bound};

@@ -1,7 +1,7 @@
 //! How far along a direction a sum of rows leaves points.
 
-use crate::directions::Direction;
 use crate::fixed::{floor_ratio, ratio};
+use bound_directions::Direction;
 use grid_model::Box3;
 use row_pairs::{Form, middle_of};
 use sat_model::RowSum;
