@@ -16,47 +16,17 @@ const STRETCH: i128 = 1_006_739_496_742;
 /// 10^12.
 const PARTS: i128 = 1_000_000_000_000;
 
-/// An azimuth, as the cosine and the sine of its angle from east, in billionths.
-#[derive(Clone, Copy)]
-struct Turn {
-    cosine: i64,
-    sine: i64,
-}
-
-/// Those of half of sixteen azimuths, evenly from east.
-static TURNS: [Turn; 8] = [
-    Turn {
-        cosine: BILLION,
-        sine: 0,
-    },
-    Turn {
-        cosine: 923_879_533,
-        sine: 382_683_432,
-    },
-    Turn {
-        cosine: 707_106_781,
-        sine: 707_106_781,
-    },
-    Turn {
-        cosine: 382_683_432,
-        sine: 923_879_533,
-    },
-    Turn {
-        cosine: 0,
-        sine: BILLION,
-    },
-    Turn {
-        cosine: -382_683_432,
-        sine: 923_879_533,
-    },
-    Turn {
-        cosine: -707_106_781,
-        sine: 707_106_781,
-    },
-    Turn {
-        cosine: -923_879_533,
-        sine: 382_683_432,
-    },
+/// The cosines of half of sixteen azimuths, as angles from east, in billionths. The sine of one is the
+/// cosine of that which is four places from it.
+static COSINES: [i64; 8] = [
+    BILLION,
+    923_879_533,
+    707_106_781,
+    382_683_432,
+    0,
+    -382_683_432,
+    -707_106_781,
+    -923_879_533,
 ];
 
 /// The axes at a place.
@@ -117,8 +87,10 @@ impl Horizon {
 
     /// The azimuth at a place among sixteen.
     fn azimuth(&self, place: usize) -> Direction {
-        let turn = TURNS[place % 8];
-        self.east.mixed(turn.cosine, &self.north, turn.sine)
+        let place = place % 8;
+        let cosine = COSINES[place];
+        let sine = COSINES[place.abs_diff(4)];
+        self.east.mixed(cosine, &self.north, sine)
     }
 }
 
