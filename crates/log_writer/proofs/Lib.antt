@@ -5,6 +5,11 @@ pub mod RunSizes
 pub mod LineSizes
 pub mod WritingLemmas
 pub mod ReportLemmas
+pub mod KeptSizes
+pub mod ClosingLemmas
+pub mod AlongLemmas
+pub mod BoundingLemmas
+pub mod EndLemmas
 pub mod TextLemmas
 pub mod LinesPut
 pub mod RunLemmas
