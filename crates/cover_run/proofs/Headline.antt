@@ -25,7 +25,6 @@ use Rattle.input_files.specs.declared.role.Role.{Role}
 use Rattle.input_files.specs.declared.role.Role.TheVariants as role
 use Rattle.input_files.specs.declared.status.Status.{Status}
 use Rattle.input_files.specs.declared.status.Status.TheVariants as status
-use Rattle.log_writer.specs.Sizes.{most_bytes}
 use Rattle.log_writer.specs.Writing.{Trust}
 use Rattle.outer_io.proofs.Covering.{get-other, get-log}
 use Rattle.outer_io.specs.Told.{Files, files_of}
@@ -42,7 +41,7 @@ use Rattle.cover_run.specs.Checking.{CheckedValue, ReadsCheckedFor, SaysAccepted
 use Rattle.cover_run.specs.Checking.{SaysRefused, checked_files, checked_value}
 use Rattle.cover_run.specs.Rechecking.{SaysTracked, SaysUntracked}
 use Rattle.cover_run.specs.Runs.{Ends, IsVerdict, IsWritten, Task, TellsAlone, muted, muted_trust}
-use Rattle.cover_run.specs.Solving.{IsSolution, epochs_of}
+use Rattle.cover_run.specs.Solving.{IsSolution, most_of}
 use Rattle.cover_run.specs.Telling.{Tells, sinks}
 use Rattle.cover_run.specs.Tracking.{IsTrack}
 use Rattle.cover_run.specs.Worlds.{World}
@@ -213,7 +212,7 @@ module _ (limits : Limits) (names : words.Files) (p : Pair names) where
     files = input_files names;
     reads = ReadsFor p.moving limits names;
     Does = λ i before after trust. Writes names.log before after trust (input_files names) limits.log
-        (most_bytes (length (epochs_of (chosen_in names) i)) i.settings.rules.bisections)
+        (most_of (chosen_in names) i)
         (p.Written i limits.log);
     Suits = λ i s. IsWritten s;
   }

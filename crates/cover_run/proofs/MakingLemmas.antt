@@ -10,7 +10,7 @@ use Rattle.input_files.specs.declared.inputs.Inputs.{Inputs}
 use Rattle.input_files.specs.declared.notice.Notice.{Notice}
 use Rattle.input_files.specs.declared.status.Status.{Status}
 use Rattle.input_files.specs.declared.status.Status.TheVariants as status
-use Rattle.log_writer.specs.Sizes.{HasRoom, most_bytes}
+use Rattle.log_writer.specs.Sizes.{HasRoom}
 use Rattle.log_writer.specs.Writing.{Trust}
 use Rattle.log_writer.specs.declared.fault.WriteFault.TheVariants as why
 use Rattle.outer_io.proofs.Covering.{get-log}
@@ -21,7 +21,7 @@ use Rattle.sat_model.specs.Logs.{LogValue}
 use Rattle.sat_model.specs.Verdicts.{Judged}
 use Rattle.cover_run.specs.Making.{AreMade, FillsMade, IsCutOff, IsFull, IsSolvedAs, Makes}
 use Rattle.cover_run.specs.Making.{SolvesMade, made_text}
-use Rattle.cover_run.specs.Solving.{IsSolution, IsSolved, Solution, epochs_of}
+use Rattle.cover_run.specs.Solving.{IsSolution, IsSolved, Solution, most_of}
 use Rattle.cover_run.specs.Telling.{Sinks, TellsLine}
 use Rattle.cover_run.specs.Worlds.{World, Says}
 use Rattle.cover_run.specs.Writing.{Answer, status_of_writing}
@@ -61,7 +61,7 @@ module _ (limit : ℕ) (name : List ℕ) (i : Inputs) (before after : World) (tr
   full_of : (bytes said : List ℕ) (answer : Answer)
       → status.LogFull ≡ status_of_writing limit answer
       → IsSolution all_epochs i limit answer bytes said
-      → HasRoom limit (most_bytes (length (epochs_of all_epochs i)) i.settings.rules.bisections)
+      → HasRoom limit (most_of all_epochs i)
       answer
       → IsFull limit i
   full_of bytes said (Err why.Full) e text room =

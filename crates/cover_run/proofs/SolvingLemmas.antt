@@ -1,6 +1,7 @@
 -- The log that `solve` writes, against the files.
 use Rattle.std.proofs.Common.{◌≡◌, ℕ, Bool, List, Option, None, Some, Ok, Err, inl, inr, refl, ap, subst, ◌∙◌, arith}
 use Rattle.std.specs.Prelude.{option_map}
+use Rattle.bound_directions.specs.declared.directions.Directions.{Directions}
 use Rattle.sharpness_laws.proofs.LogLemmas.{begun_clear, whole_clear}
 use Rattle.sharpness_laws.specs.UsableRows.{AllDistinctIf}
 use Rattle.epoch_rows.proofs.CameLemmas.{whole_admits, whole_covers}
@@ -77,19 +78,20 @@ rows_mean i rows nav settings station =
 
 -- by a source, rules and a key that are known
 pub text_known : (m n : Meaning) (given rules : Rules) (asked renews : Bool)
+    (directions : Option Directions)
     (first here last : EpochsLeft) (limit : ℕ) (answer : Answer) (bytes said : List ℕ)
     → n ≡ m → given ≡ rules → asked ≡ renews → first ≡ here
-    → IsText (source_of n given.outliers asked) rules first last limit answer bytes said
-    → IsText (source_of m rules.outliers renews) rules here last limit answer bytes said
-text_known m n given rules asked renews first here last limit answer bytes said same are is begins
+    → IsText (source_of n given.outliers asked directions) rules first last limit answer bytes said
+    → IsText (source_of m rules.outliers renews directions) rules here last limit answer bytes said
+text_known m n given rules asked renews directions first here last limit answer bytes said same are is begins
     text = subst (λ (l : EpochsLeft).
-    IsText (source_of m rules.outliers renews) rules l last limit answer bytes said) begins
+    IsText (source_of m rules.outliers renews directions) rules l last limit answer bytes said) begins
     (subst (λ (b : Bool).
-    IsText (source_of m rules.outliers b) rules first last limit answer bytes said) is
+    IsText (source_of m rules.outliers b directions) rules first last limit answer bytes said) is
     (subst (λ (r : Rules).
-    IsText (source_of m r.outliers asked) rules first last limit answer bytes said) are
+    IsText (source_of m r.outliers asked directions) rules first last limit answer bytes said) are
     (subst (λ (k : Meaning).
-    IsText (source_of k given.outliers asked) rules first last limit answer bytes said) same text)))
+    IsText (source_of k given.outliers asked directions) rules first last limit answer bytes said) same text)))
 
 -- its text is that of a log that all own lines admit, that covers what fits, and that leaves nothing
 -- clear
@@ -102,6 +104,7 @@ solution_of chosen i root last limit (Ok done) bytes said is_root distinct text 
     let m = meaning_of i in
     let rules = i.settings.rules in
     let renews = i.settings.renew in
+    let directions = i.settings.directions in
     let sound = files_sound i in
     let left = standing chosen i root in
     record {
@@ -111,14 +114,14 @@ solution_of chosen i root last limit (Ok done) bytes said is_root distinct text 
       whole = text;
       admits = λ owns are. subst (λ (delays : Delays).
           Admits delays (searches_in root (epochs_of chosen i)) owns rules text.log) (files_delays i)
-          (whole_admits m sound renews rules left last refl limit bytes said text owns are);
-      cover = whole_covers m sound renews rules left last refl limit bytes said text;
-      nothing_clear = whole_clear m sound renews rules left refl distinct limit bytes said last text;
+          (whole_admits m sound renews directions rules left last refl limit bytes said text owns are);
+      cover = whole_covers m sound renews directions rules left last refl limit bytes said text;
+      nothing_clear = whole_clear m sound renews directions rules left refl distinct limit bytes said last text;
     }
 solution_of chosen i root last limit (Err fault) bytes said is_root distinct text = record {
   root = root;
   is_root = is_root;
   begun = text;
   nothing_clear = begun_clear (meaning_of i) (files_sound i) i.settings.renew
-      i.settings.rules (standing chosen i root) refl distinct limit bytes said fault text;
+      i.settings.directions i.settings.rules (standing chosen i root) refl distinct limit bytes said fault text;
 }

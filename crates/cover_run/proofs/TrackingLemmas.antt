@@ -2,6 +2,8 @@
 use Rattle.std.proofs.Common.{◌≡◌, ◌≢◌, ℕ, suc, ◌+◌, ◌≤◌, Bool, true, false, List, [], ◌∷◌, ◌++◌, length, take}
 use Rattle.std.proofs.Common.{Option, None, Some, Ok, Err, inl, inr, refl, sym, ap, ap₂, subst, ◌∙◌, arith, append_assoc, append-nil}
 use Rattle.std.specs.Option.{option_map}
+use Rattle.std.specs.Prelude.{is_some}
+use Rattle.bound_directions.specs.declared.directions.Directions.{Directions}
 use Rattle.sharpness_laws.proofs.LogLemmas.{came_clear, whole_clear}
 use Rattle.sharpness_laws.specs.UsableRows.{AllDistinctIf}
 use Rattle.gnss_model.specs.declared.delays.Delays.{Delays}
@@ -24,7 +26,7 @@ use Rattle.log_writer.specs.Kept.{hull_kept, hull_of_last}
 use Rattle.log_writer.specs.Pavings.{HasRun}
 use Rattle.log_writer.specs.Pieces.{Piece, log_bytes, log_pieces, pieces_with, report_bytes, version_of}
 use Rattle.log_writer.specs.Sizes.{HasRoom}
-use Rattle.log_writer.specs.Sources.{Source, Came}
+use Rattle.log_writer.specs.Sources.{Source, version_from, Came}
 use Rattle.log_writer.specs.Texts.{IsText, IsWhole}
 use Rattle.log_writer.specs.Writing.{Trust}
 use Rattle.log_writer.specs.declared.fault.WriteFault.TheVariants as why
@@ -64,7 +66,7 @@ lost_is true parts index = refl
 lost_is false [] index = refl
 lost_is false (part ∷ parts) index = let (h, is) = some_hull part parts in rw is refl
 
-module _ (m : Meaning) (q : ℕ) (renews : Bool) (rules : Rules) where
+module _ (m : Meaning) (q : ℕ) (renews : Bool) (directions : Option Directions) (rules : Rules) where
   lost_here : (old : EpochsLeft) (hull : Option GridBox) (given block : Block) (next : EpochsLeft)
       → GivesNext m q old hull given next
       → is_few given ≡ is_few block → block.index ≡ given.index
@@ -77,15 +79,15 @@ module _ (m : Meaning) (q : ℕ) (renews : Bool) (rules : Rules) where
       ∙ ap₂ (λ (f : Bool) (n : ℕ). lost_with f parts n) few (sym (index ∙ gave.grown.index))
 
   came_lost : (old : EpochsLeft) (hull : Option GridBox) (blocks : List Block) (behind : EpochsLeft)
-      → Came (source_of m q renews) rules old hull blocks behind
+      → Came (source_of m q renews directions) rules old hull blocks behind
       → told_of (lost_of behind.last (hull_of_last hull blocks)) ≡ lost_behind (told_of (lost_of old.last hull)) blocks
   came_lost old hull [] behind came = ap (λ (l : EpochsLeft). told_of (lost_of l.last hull)) (sym came)
   came_lost old hull (block ∷ blocks) behind (given, next, gave, paves, came) =
       came_lost next (hull_kept block.body) blocks behind came
-      ∙ ap (λ (line : List ℕ). lost_behind line blocks) (lost_here old hull given block next gave (sym (same_few (HasRun ((source_of m q renews).maker next) rules) block given.body block.body paves.body)) paves.index)
+      ∙ ap (λ (line : List ℕ). lost_behind line blocks) (lost_here old hull given block next gave (sym (same_few (HasRun directions ((source_of m q renews directions).maker next) rules) block given.body block.body paves.body)) paves.index)
 
   pub whole_lost : (first last : EpochsLeft) (limit : ℕ) (bytes said : List ℕ) → first.last ≡ None
-      → (w : IsWhole (source_of m q renews) rules first last limit bytes said)
+      → (w : IsWhole (source_of m q renews directions) rules first last limit bytes said)
       → told_of last.lost ≡ lost_text w.log.blocks
   whole_lost first last limit bytes said none w =
       ap told_of w.no_more.lost
@@ -119,7 +121,7 @@ track_report log =
 module _ {B : Type 0} (source : Source B) (rules : Rules) (first last : B) (limit : ℕ) (bytes report : List ℕ)
     (w : IsWhole source rules first last limit bytes report) where
   abbrev log : LogValue
-  log = record { version = version_of rules (source.maker first).active; rules = rules; blocks = w.log.blocks }
+  log = record { version = version_from source rules first; rules = rules; blocks = w.log.blocks }
 
   log_is : w.log ≡ log
   log_is = ap₂ (λ (v : ℕ) (r : Rules). let l : LogValue = record { version = v; rules = r; blocks = w.log.blocks } in l) w.version w.same_rules
@@ -159,12 +161,12 @@ pub taken_both : (a b c : SinkState) (x y : List ℕ) → TakenBy a b x → Take
     → TakenBy a c (x ++ y)
 taken_both a b c x y first second = second ∙ ap (option_map (taking y)) first ∙ taking_both x y a.told
 
-module _ (m : Meaning) (q : ℕ) (renews : Bool) (i : Inputs) (first last : EpochsLeft) (none : first.last ≡ None) (limit most : ℕ) (name : List ℕ) (before mid : World) (was : Trust) where
+module _ (m : Meaning) (q : ℕ) (renews : Bool) (directions : Option Directions) (i : Inputs) (first last : EpochsLeft) (none : first.last ≡ None) (limit most : ℕ) (name : List ℕ) (before mid : World) (was : Trust) where
   abbrev OfTube : Answer → (bytes said : List ℕ) → Type 0
-  OfTube = IsText (source_of m q renews) i.settings.rules first last limit
+  OfTube = IsText (source_of m q renews directions) i.settings.rules first last limit
 
   abbrev OfTrack : Answer → (bytes said : List ℕ) → Type 0
-  OfTrack = IsTrackText (source_of m q renews) i first last limit
+  OfTrack = IsTrackText (source_of m q renews directions) i first last limit
 
   begun_text : (bytes said : List ℕ) (fault : _) → OfTube (Err fault) bytes said
       → OfTrack (Err fault) bytes said
@@ -174,7 +176,7 @@ module _ (m : Meaning) (q : ℕ) (renews : Bool) (i : Inputs) (first last : Epoc
     came = b.came;
     hand = b.hand;
     in_hand = b.in_hand;
-    broke = broke_on limit (pieces_with (record { version = version_of i.settings.rules renews; rules = i.settings.rules; blocks = b.blocks }) b.hand) (lost_pieces b.hand b.blocks) fault bytes said b.broke;
+    broke = broke_on limit (pieces_with (record { version = version_of i.settings.rules renews (is_some directions); rules = i.settings.rules; blocks = b.blocks }) b.hand) (lost_pieces b.hand b.blocks) fault bytes said b.broke;
   }
 
   module _ (s : Status) (wrote : WritesLog name before mid was [] limit most OfTube s) where
@@ -215,7 +217,7 @@ module _ (m : Meaning) (q : ℕ) (renews : Bool) (i : Inputs) (first last : Epoc
     abbrev after : World
     after = world mid.shelf out err
 
-    module _ (first_end : Status) (wrote : WritesLog name before mid was [] limit most OfTube first_end) (w : IsWhole (source_of m q renews) i.settings.rules first last limit wrote.bytes wrote.said)
+    module _ (first_end : Status) (wrote : WritesLog name before mid was [] limit most OfTube first_end) (w : IsWhole (source_of m q renews directions) i.settings.rules first last limit wrote.bytes wrote.said)
         (same : mid.err ≡ before.err) where
       abbrev line : List ℕ
       line = lost_text w.log.blocks
@@ -250,7 +252,7 @@ module _ (m : Meaning) (q : ℕ) (renews : Bool) (i : Inputs) (first last : Epoc
           came = w.came;
           hand = None;
           in_hand = tt;
-          broke = lost_broke (source_of m q renews) i.settings.rules first last limit wrote.bytes wrote.said w k;
+          broke = lost_broke (source_of m q renews directions) i.settings.rules first last limit wrote.bytes wrote.said w k;
         };
         log = wrote.log;
         report = taken_both before.out mid.out out wrote.said (take k line) wrote.report takes;
@@ -275,7 +277,7 @@ module _ (m : Meaning) (q : ℕ) (renews : Bool) (i : Inputs) (first last : Epoc
         → TellsLost last.lost (sinks mid.out mid.err) (sinks out err) trust.out s
         → WritesLog name before after trust [] limit most OfTrack s
     by_answer t wrote (Ok all) is ends w same told =
-        told_so t wrote w same last.lost (whole_lost m q renews i.settings.rules first last limit wrote.bytes wrote.said none w) told
+        told_so t wrote w same last.lost (whole_lost m q renews directions i.settings.rules first last limit wrote.bytes wrote.said none w) told
     by_answer t wrote (Err why.Log) is ends text end told = cc
     by_answer t wrote (Err why.Out) is ends text end told = cc
     by_answer t wrote (Err why.Full) is ends text end told = cc
@@ -301,6 +303,7 @@ track_of chosen i search speed last limit (Ok done) bytes said is_tube distinct 
     let m = meaning_of i in
     let sound = files_sound i in
     let renews = i.settings.renew in
+    let directions = i.settings.directions in
     let rules = i.settings.rules in
     let here = moving chosen i search speed in
     let w = track.whole in
@@ -312,11 +315,11 @@ track_of chosen i search speed last limit (Ok done) bytes said is_tube distinct 
       track = track;
       admits = λ owns are. subst (λ (delays : Delays).
           Admits delays (tube_searches (tube_of chosen i search speed) w.log.blocks) owns rules w.log)
-          (files_delays i) (whole_admits m sound renews rules here last refl limit bytes track.report w owns are);
-      cover = whole_covers m sound renews rules here last refl limit bytes track.report w;
-      nothing_clear = whole_clear m sound renews rules here refl distinct limit bytes track.report last w;
+          (files_delays i) (whole_admits m sound renews directions rules here last refl limit bytes track.report w owns are);
+      cover = whole_covers m sound renews directions rules here last refl limit bytes track.report w;
+      nothing_clear = whole_clear m sound renews directions rules here refl distinct limit bytes track.report last w;
       found = λ path goes fits. found_by m (tube_of chosen i search speed) rules w.log (kept_boxes w.log) path refl
-          (whole_accepted m sound renews rules here last refl limit bytes track.report w) goes fits;
+          (whole_accepted m sound renews directions rules here last refl limit bytes track.report w) goes fits;
     }
 track_of chosen i search speed last limit (Err fault) bytes said is_tube distinct begun = record {
   search = search;
@@ -324,6 +327,6 @@ track_of chosen i search speed last limit (Err fault) bytes said is_tube distinc
   is_tube = is_tube;
   last = last;
   begun = begun;
-  nothing_clear = came_clear (meaning_of i) (files_sound i) i.settings.renew i.settings.rules (moving chosen i search speed) None begun.blocks begun.behind begun.hand
+  nothing_clear = came_clear (meaning_of i) (files_sound i) i.settings.renew i.settings.directions i.settings.rules (moving chosen i search speed) None begun.blocks begun.behind begun.hand
       tt distinct begun.came begun.in_hand;
 }

@@ -12,7 +12,6 @@ use Rattle.input_files.specs.declared.notice.Notice.{Notice}
 use Rattle.input_files.specs.declared.notice.Notice.TheVariants as notice
 use Rattle.input_files.specs.declared.status.Status.{Status}
 use Rattle.input_files.specs.declared.status.Status.TheVariants as status
-use Rattle.log_writer.specs.Sizes.{most_bytes}
 use Rattle.log_writer.specs.declared.fault.WriteFault.TheVariants as why
 use Rattle.made_input.specs.MadeInput.{IsMade}
 use Rattle.made_input.specs.declared.made.Made.{Made}
@@ -24,7 +23,7 @@ use Rattle.sat_model.specs.Events.{steps_in}
 use Rattle.sat_model.specs.Logs.{Body, Block, LogValue}
 use Rattle.sat_model.specs.StepKinds.{is_inside, is_edge, is_outside, is_split}
 use Rattle.sat_model.specs.declared.steps.Step.{Step}
-use Rattle.cover_run.specs.Solving.{IsSolved, IsSolvedTo, epochs_of}
+use Rattle.cover_run.specs.Solving.{IsSolved, IsSolvedTo, most_of}
 use Rattle.cover_run.specs.Telling.{Sinks, Breaks, Prints}
 use Rattle.cover_run.specs.Worlds.{Says}
 use Rattle.cover_run.specs.declared.totals.Kind.{Kind}
@@ -98,7 +97,7 @@ module _ (limit : ℕ) (i : Inputs) where
     pub bytes : List ℕ
     pub said : List ℕ
     pub begun : IsSolvedTo all_epochs i why.Full limit bytes said
-    pub room : limit < most_bytes (length (epochs_of all_epochs i)) i.settings.rules.bisections
+    pub room : limit < most_of all_epochs i
 
 -- memory ran out, or the log was full
 abbrev pub IsCutOff : ℕ → Type 0 → Notice → Type 0

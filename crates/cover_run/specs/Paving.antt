@@ -1,5 +1,5 @@
 -- What `pave` reads and does.
-use Rattle.std.specs.Prelude.{ℕ, List, [], ◌∷◌, length}
+use Rattle.std.specs.Prelude.{ℕ, false, List, [], ◌∷◌, length}
 use Rattle.input_files.specs.declared.status.Status.{Status}
 use Rattle.log_writer.specs.RowsFrom.{of_rows}
 use Rattle.log_writer.specs.Sizes.{most_bytes}
@@ -19,4 +19,4 @@ IsPaved rows limit answer bytes said =
 abbrev pub Paves : ℕ → (from log : List ℕ) → LogValue → World → World → Trust → Status → Type 0
 Paves limit from log rows before after trust =
     Writes log before after trust ((slot.Rows, from) ∷ []) limit
-    (most_bytes (length rows.blocks) rows.rules.bisections) (IsPaved rows limit)
+    (most_bytes false (length rows.blocks) rows.rules.bisections) (IsPaved rows limit)

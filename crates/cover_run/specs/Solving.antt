@@ -1,5 +1,5 @@
 -- What `solve` writes.
-use Rattle.std.specs.Prelude.{ℕ, List, [], length, Ok, Err, option_map}
+use Rattle.std.specs.Prelude.{ℕ, List, [], length, Ok, Err, is_some, option_map}
 use Rattle.sharpness_laws.specs.Left.{BlocksLeaveNothingClear, LogLeavesNothingClear}
 use Rattle.command_words.specs.Commands.{Files}
 use Rattle.epoch_rows.specs.EpochsLeft.{EpochsLeft, left_in, source_of}
@@ -42,9 +42,11 @@ module _ (i : Inputs) where
   abbrev pub meaning_of : Meaning
   meaning_of = rows_meaning i.nav i.settings (option_map station_in i.station)
 
-  -- the epochs give their blocks in turn, and renew their rows where the settings say so
+  -- the epochs give their blocks in turn, and renew their rows where the settings say so, which ask
+  -- for bounds in these directions, if in any
   abbrev pub epoch_source : Source EpochsLeft
-  epoch_source = source_of meaning_of i.settings.rules.outliers i.settings.renew
+  epoch_source =
+      source_of meaning_of i.settings.rules.outliers i.settings.renew i.settings.directions
 
   -- the search box of the settings
   abbrev pub IsRootOf : GridBox → Type 0
@@ -54,6 +56,11 @@ module _ (i : Inputs) where
 abbrev pub standing : Selection → Inputs → GridBox → EpochsLeft
 standing chosen i root =
     left_in (epochs_of chosen i) (λ blocks. searches_in root (epochs_of chosen i))
+
+-- the most bytes of their log
+abbrev pub most_of : Selection → Inputs → ℕ
+most_of chosen i = most_bytes (is_some i.settings.directions) (length (epochs_of chosen i))
+    i.settings.rules.bisections
 
 module _ (chosen : Selection) (i : Inputs) where
   -- The text of one log and its report, within the limit: each epoch's block has own lines, whose
@@ -75,8 +82,8 @@ module _ (chosen : Selection) (i : Inputs) where
         whole.log
     pub cover : FileCover (meaning_of i) i.settings.rules.outliers
         (searches_in root (epochs_of chosen i)) whole.log
-    pub nothing_clear : LogLeavesNothingClear (meaning_of i) i.settings.renew i.settings.rules
-        (searches_in root (epochs_of chosen i)) whole.log.blocks
+    pub nothing_clear : LogLeavesNothingClear (meaning_of i) i.settings.renew i.settings.directions
+        i.settings.rules (searches_in root (epochs_of chosen i)) whole.log.blocks
 
   -- what this fault left of both; its blocks, with the one in hand, leave nothing clear either
   pub record IsSolvedTo (fault : WriteFault) (limit : ℕ) (bytes said : List ℕ) : Type 0 where
@@ -84,8 +91,9 @@ module _ (chosen : Selection) (i : Inputs) where
     pub is_root : IsRootOf i root
     pub begun : IsBegun fault (epoch_source i) i.settings.rules
         (standing chosen i root) limit bytes said
-    pub nothing_clear : BlocksLeaveNothingClear (meaning_of i) i.settings.renew i.settings.rules
-        (searches_in root (epochs_of chosen i)) begun.blocks begun.hand
+    pub nothing_clear : BlocksLeaveNothingClear (meaning_of i) i.settings.renew
+        i.settings.directions i.settings.rules (searches_in root (epochs_of chosen i))
+        begun.blocks begun.hand
 
   -- by how the writing ended
   abbrev pub IsSolution : ℕ → Answer → (bytes said : List ℕ) → Type 0
@@ -98,7 +106,7 @@ module _ (limit : ℕ) (log : List ℕ) (chosen : Selection) (i : Inputs) (befor
   -- behind the reading of files
   abbrev pub WritesBehind : NamedSlots → Status → Type 0
   WritesBehind reads = Writes log before after trust reads limit
-      (most_bytes (length (epochs_of chosen i)) i.settings.rules.bisections)
+      (most_of chosen i)
       (IsSolution chosen i limit)
 
   abbrev pub Solution : Status → Type 0

@@ -16,9 +16,8 @@ use Rattle.input_files.specs.declared.status.Status.{Status}
 use Rattle.input_files.specs.declared.status.Status.TheVariants as status
 use Rattle.log_writer.specs.Breaks.{BrokeOff}
 use Rattle.log_writer.specs.Kept.{hull_of_last}
-use Rattle.log_writer.specs.Pieces.{Piece, piece, pieces_with, version_of}
-use Rattle.log_writer.specs.Sizes.{most_bytes}
-use Rattle.log_writer.specs.Sources.{Source, Came, IsInHand}
+use Rattle.log_writer.specs.Pieces.{Piece, piece, pieces_with}
+use Rattle.log_writer.specs.Sources.{Source, version_from, Came, IsInHand}
 use Rattle.log_writer.specs.Texts.{IsWhole}
 use Rattle.log_writer.specs.Writing.{Trust}
 use Rattle.log_writer.specs.declared.fault.WriteFault.{WriteFault}
@@ -31,7 +30,7 @@ use Rattle.sat_model.specs.Logs.{Block, LogValue, is_few}
 use Rattle.tube_searches.specs.Found.{IsPath, PathFits, IsFoundIn}
 use Rattle.tube_searches.specs.Tubes.{TubeValue, tube_searches}
 use Rattle.cover_run.specs.Chosen.{chosen_in}
-use Rattle.cover_run.specs.Solving.{IsRootOf, epoch_source, epochs_of, meaning_of}
+use Rattle.cover_run.specs.Solving.{IsRootOf, epoch_source, epochs_of, meaning_of, most_of}
 use Rattle.cover_run.specs.Telling.{Sinks, TellsLine}
 use Rattle.cover_run.specs.Worlds.{World}
 use Rattle.cover_run.specs.Writing.{Answer, Writes}
@@ -86,7 +85,7 @@ module _ (source : Source EpochsLeft) (i : Inputs) (first last : EpochsLeft) whe
     pub hand : Option Block
     pub in_hand : IsInHand source i.settings.rules behind (hull_of_last None blocks) hand
     pub broke : BrokeOff limit (pieces_with (record {
-      version = version_of i.settings.rules (source.maker first).active;
+      version = version_from source i.settings.rules first;
       rules = i.settings.rules;
       blocks = blocks;
     }) hand ++ lost_pieces hand blocks) fault bytes said
@@ -140,8 +139,8 @@ module _ (chosen : Selection) (i : Inputs) where
         i.settings.rules track.whole.log
     pub cover : FileCover (meaning_of i) i.settings.rules.outliers
         (tube_searches (tube_of chosen i search speed) track.whole.log.blocks) track.whole.log
-    pub nothing_clear : LogLeavesNothingClear (meaning_of i) i.settings.renew i.settings.rules
-        (tube_searches (tube_of chosen i search speed) track.whole.log.blocks)
+    pub nothing_clear : LogLeavesNothingClear (meaning_of i) i.settings.renew i.settings.directions
+        i.settings.rules (tube_searches (tube_of chosen i search speed) track.whole.log.blocks)
         track.whole.log.blocks
     pub found : FindsReceiver search speed track.whole.log
         (tube_searches (tube_of chosen i search speed) track.whole.log.blocks)
@@ -154,7 +153,8 @@ module _ (chosen : Selection) (i : Inputs) where
     pub last : EpochsLeft
     pub begun : IsBegunTrack (epoch_source i) i (moving chosen i search speed) last fault limit
         bytes said
-    pub nothing_clear : BlocksLeaveNothingClear (meaning_of i) i.settings.renew i.settings.rules
+    pub nothing_clear : BlocksLeaveNothingClear (meaning_of i) i.settings.renew
+        i.settings.directions i.settings.rules
         (tube_searches (tube_of chosen i search speed) begun.blocks) begun.blocks begun.hand
 
   -- by how the writing ended
@@ -168,7 +168,7 @@ module _ (limit : ℕ) (log : List ℕ) (chosen : Selection) (i : Inputs) (befor
   -- behind the reading of files
   abbrev pub TracksBehind : NamedSlots → Status → Type 0
   TracksBehind reads = Writes log before after trust reads limit
-      (most_bytes (length (epochs_of chosen i)) i.settings.rules.bisections)
+      (most_of chosen i)
       (IsTrack chosen i limit)
 
   abbrev pub Track : Status → Type 0

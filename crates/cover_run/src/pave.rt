@@ -7,7 +7,7 @@ ghost use Rattle.log_writer.specs.Writing.{trust_of};
 use crate::telling::say;
 use crate::writing::write_named;
 use input_files::{Limits, RowsText, Status, read_named};
-use log_writer::LogBlocks;
+use log_writer::{LogBlocks, Wanted};
 use outer_io::{Shelf, Sink};
 use std::alloc::Global;
 
@@ -30,7 +30,11 @@ pub fn run_pave<H: Shelf, O: Sink, E: Sink>(
         Ok(given) => given,
         Err(notice) => return say(err, &notice),
     };
-    let rules = given.rules;
+    // Rows say nothing of bounds.
+    let wanted = Wanted {
+        rules: given.rules,
+        directions: None,
+    };
     let mut blocks = LogBlocks::of_log(given);
-    write_named(alloc, limits, log, &rules, &mut blocks, shelf, out, err)
+    write_named(alloc, limits, log, &wanted, &mut blocks, shelf, out, err)
 }

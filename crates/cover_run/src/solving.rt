@@ -10,7 +10,7 @@ ghost use Rattle.log_writer.specs.Writing.{trust_of};
 use crate::chosen::chosen_in;
 use crate::file_rows::rows_of;
 use crate::telling::say;
-use crate::writing::write_named;
+use crate::writing::{wanted_by, write_named};
 use command_words::Files;
 use epoch_rows::ObsBlocks;
 use epoch_selection::{Searches, Selection};
@@ -44,11 +44,12 @@ pub fn write_solution<H: Shelf, O: Sink, E: Sink>(
         root: settings.root(inputs.obs.position),
     };
     let mut blocks = ObsBlocks::of_walk(alloc, &source, searches, &settings.rules, settings.renew);
+    let wanted = wanted_by(settings);
     write_named(
         alloc,
         limits,
         log,
-        &settings.rules,
+        &wanted,
         &mut blocks,
         shelf,
         out,

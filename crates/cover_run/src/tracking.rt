@@ -17,7 +17,7 @@ use crate::chosen::chosen_in;
 use crate::file_rows::rows_of;
 use crate::telling::{say, tell};
 use crate::texts::Line;
-use crate::writing::write_named;
+use crate::writing::{wanted_by, write_named};
 use command_words::Files;
 use epoch_rows::ObsBlocks;
 use epoch_selection::{Searches, Selection};
@@ -107,7 +107,8 @@ fn write_track<H: Shelf, O: Sink, E: Sink>(
     let source = rows_of(inputs);
     let tube = declared_tube(inputs, chosen);
     let mut blocks = ObsBlocks::of_walk(alloc, &source, tube, rules, settings.renew);
-    let status = write_named(alloc, limits, log, rules, &mut blocks, shelf, out, err);
+    let wanted = wanted_by(settings);
+    let status = write_named(alloc, limits, log, &wanted, &mut blocks, shelf, out, err);
     if status == Status::Done {
         return tell_lost(blocks.lost(), out, err);
     }

@@ -5,6 +5,7 @@ use Rattle.std.specs.List.{AllByRecursion}
 use Rattle.epoch_rows.specs.Grown.{AreGrownLines, HasBody}
 use Rattle.epoch_rows.specs.Renewed.{Hand, hand_of, maker_of}
 use Rattle.epoch_rows.specs.Solved.{IsSolved, AreSolved}
+use Rattle.bound_directions.specs.declared.directions.Directions.{Directions}
 use Rattle.epoch_selection.specs.Searches.{Search}
 use Rattle.log_writer.specs.Pavings.{BodyExtends, HasRun}
 use Rattle.paving.specs.Renewing.{Maker}
@@ -75,17 +76,17 @@ as_many delays (e ∷ entries) (line ∷ lines) all = ap suc (as_many delays ent
 
 -- a finished block has a body where the one that was given has, with the same root
 -- the body is that of a run from the root, over the rows that were given
-record IsRunOver (maker : Maker) (rules : Rules) (delays : Delays) (root : GridBox) (own : List SatLine) (block : Block) (body : Body) : Type 0 where
+record IsRunOver (directions : Option Directions) (maker : Maker) (rules : Rules) (delays : Delays) (root : GridBox) (own : List SatLine) (block : Block) (body : Body) : Type 0 where
   same_root : body.root ≡ root
   grown : AreGrownLines (pos (spare_of root)) (pos (err_spare_of root delays)) own block.sats
-  run : HasRun maker rules block body
+  run : HasRun directions maker rules block body
 
-run_over : (maker : Maker) (rules : Rules) (delays : Delays) (root : GridBox) (own : List SatLine) (sats : List SatEntry) (block : Block) (given : Option Body) (body : Body)
+run_over : (directions : Option Directions) (maker : Maker) (rules : Rules) (delays : Delays) (root : GridBox) (own : List SatLine) (sats : List SatEntry) (block : Block) (given : Option Body) (body : Body)
     → HasBody delays root own sats given → block.sats ≡ sats
-    → BodyExtends (HasRun maker rules) block given (Some body)
-    → IsRunOver maker rules delays root own block body
-run_over maker rules delays root own sats block None body has same is = absurd is
-run_over maker rules delays root own sats block (Some given) body has same is = record {
+    → BodyExtends (HasRun directions maker rules) block given (Some body)
+    → IsRunOver directions maker rules delays root own block body
+run_over directions maker rules delays root own sats block None body has same is = absurd is
+run_over directions maker rules delays root own sats block (Some given) body has same is = record {
   same_root = is.0 ∙ ap (λ (b : Body). b.root) has.1;
   grown = rw same has.0;
   run = is.1;
@@ -102,7 +103,7 @@ boxes_of [] points = tt
 boxes_of (search ∷ rest) points = (points.0.box, boxes_of rest points.1)
 
 -- by what a source says of satellites
-module _ (m : Meaning) (sound : IsSound m) (renews : Bool) (rules : Rules) where
+module _ (m : Meaning) (sound : IsSound m) (renews : Bool) (directions : Option Directions) (rules : Rules) where
   module _ (search : Search) (has : HasPoint search.root) where
     sats_agree : (own other : List SatLine) (sats : List SatEntry) (body : Option Body)
         → AreLinesOf m search.root search.epoch own → AreLinesOf m search.root search.epoch other
@@ -113,7 +114,7 @@ module _ (m : Meaning) (sound : IsSound m) (renews : Bool) (rules : Rules) where
     sats_agree own other sats (Some given) a b body =
         lines_agree m sound search.root search.epoch.tag has search.epoch.sats.items own other sats a b body.0
 
-    module _ (before : Option ℕ) (block : Block) (s : IsSolved m renews rules search block) (passes : BlockPasses rules before block) where
+    module _ (before : Option ℕ) (block : Block) (s : IsSolved m renews directions rules search block) (passes : BlockPasses rules before block) where
       is_of : IsOf rules before search.epoch block
       is_of = record { later = passes.head.later; suits = passes.head.suits; index = s.made.index ∙ s.grown.index; tag = s.made.ps ∙ s.grown.ps }
 
@@ -121,7 +122,7 @@ module _ (m : Meaning) (sound : IsSound m) (renews : Bool) (rules : Rules) where
       hand = hand_of search s.given
 
       same_few : is_few block ≡ is_few s.given
-      same_few = few_as (HasRun (maker_of m renews (Some (hand_of search s.given))) rules) block s.given.body block.body s.made.body
+      same_few = few_as (HasRun directions (maker_of m renews (Some (hand_of search s.given))) rules) block s.given.body block.body s.made.body
 
       block_agrees : (other : List SatLine) → AreLinesOf m search.root search.epoch other
           → AllAgree m.delays block.sats (expected (is_few block) other)
@@ -129,15 +130,15 @@ module _ (m : Meaning) (sound : IsSound m) (renews : Bool) (rules : Rules) where
 
       -- its body is that of a run over the rows that were given
       run_of : (body : Body) → block.body ≡ Some body
-          → IsRunOver (maker_of m renews (Some (hand_of search s.given))) rules m.delays search.root s.grown.own block body
+          → IsRunOver directions (maker_of m renews (Some (hand_of search s.given))) rules m.delays search.root s.grown.own block body
       run_of body is =
           let maker = maker_of m renews (Some (hand_of search s.given)) in
-          run_over maker rules m.delays search.root s.grown.own s.given.sats block s.given.body body s.grown.body s.made.sats
-          (subst (λ (b : Option Body). BodyExtends (HasRun maker rules) block s.given.body b) is s.made.body)
+          run_over directions maker rules m.delays search.root s.grown.own s.given.sats block s.given.body body s.grown.body s.made.sats
+          (subst (λ (b : Option Body). BodyExtends (HasRun directions maker rules) block s.given.body b) is s.made.body)
 
       -- each renewed row of the body is one of the satellite in its place
       rows_at : (other : List SatLine) → AreLinesOf m search.root search.epoch other → (body : Body)
-          → IsRunOver (maker_of m renews (Some (hand_of search s.given))) rules m.delays search.root s.grown.own block body
+          → IsRunOver directions (maker_of m renews (Some (hand_of search s.given))) rules m.delays search.root s.grown.own block body
           → AllByRecursion (λ (new : RowsOver). (i : ℕ) (row : Row) → slice_get new.rows i ≡ Some row → RowAt m search (usable_of search.epoch.sats.items other) new.part i row) (renewals_in body.events)
       unfolding hand
       rows_at other are body r =
@@ -150,7 +151,7 @@ module _ (m : Meaning) (sound : IsSound m) (renews : Bool) (rules : Rules) where
           ∙ grown_sats m sound search.root search.epoch.tag has by err_by sats s.grown.own other block.sats s.grown.are_own are r.grown in
           each_as (IsGiven maker rules (length (rows_of block.sats))) _ (renewals_in body.events)
           (λ new given i row at. row_at m search block.sats other passes.sats names hand refl usable new.part i row (row_given maker rules new.part new.rows i row given.rows at))
-          (run_given maker rules block body r.run)
+          (run_given maker rules directions block body r.run)
 
       body_at : (own : OwnLines) → IsOwnOf m search (renewals_of block.body) own
           → (theirs : Option Body) → block.body ≡ theirs → BodyPasses rules block theirs
@@ -177,7 +178,7 @@ module _ (m : Meaning) (sound : IsSound m) (renews : Bool) (rules : Rules) where
       renewed_counts (Some body) is counts =
           let maker = maker_of m renews (Some (hand_of search s.given)) in
           let r = run_of body is in
-          each_as (IsGiven maker rules (length (rows_of block.sats))) _ (renewals_in body.events) (λ new given. given.many ∙ counts) (run_given maker rules block body r.run)
+          each_as (IsGiven maker rules (length (rows_of block.sats))) _ (renewals_in body.events) (λ new given. given.many ∙ counts) (run_given maker rules directions block body r.run)
 
       epoch_passes : (own : OwnLines) → IsOwnOf m search (renewals_of block.body) own
           → EpochPasses m.delays rules search.root own block
@@ -207,7 +208,7 @@ module _ (m : Meaning) (sound : IsSound m) (renews : Bool) (rules : Rules) where
               (record { lines = s.grown.own; renewed = renewed }, record { lines = s.grown.are_own; renewed = are }, whole)
 
   pub admits_from : (before : Option ℕ) (searches : List Search) (blocks : List Block)
-      → HavePoints searches → AreSolved m renews rules searches blocks
+      → HavePoints searches → AreSolved m renews directions rules searches blocks
       → BlocksPass rules before blocks
       → (owns : List OwnLines) → AreOwn m searches blocks owns
       → AdmitsFrom m.delays rules before owns searches blocks
@@ -224,7 +225,7 @@ module _ (m : Meaning) (sound : IsSound m) (renews : Bool) (rules : Rules) where
 
   -- the own lines that the rows were made of, all of them
   pub owns_of : (before : Option ℕ) (searches : List Search) (blocks : List Block)
-      → HavePoints searches → AreSolved m renews rules searches blocks
+      → HavePoints searches → AreSolved m renews directions rules searches blocks
       → BlocksPass rules before blocks
       → (owns : List OwnLines) × AreOwn m searches blocks owns × (length owns ≡ length searches) × AreWhole owns blocks
   owns_of before [] [] points solved pass = ([], tt, refl, tt)

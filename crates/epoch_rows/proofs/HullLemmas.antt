@@ -1,7 +1,9 @@
 -- The hull that a paving tells is that of the boxes that cover its block, and a part of its root.
-use Rattle.std.proofs.Common.{◌≡◌, Bool, true, false, List, [], ◌∷◌, refl, sym, ap, subst, ◌∙◌, Option, None, Some}
+use Rattle.std.proofs.Common.{◌≡◌, Bool, true, false, List, [], ◌∷◌, ◌++◌, refl, sym, ap, subst, ◌∙◌, Option, None, Some}
 use Rattle.std.specs.Prelude.{ℤ, is_none}
+use Rattle.bound_directions.specs.declared.directions.Directions.{Directions}
 use Rattle.subpaving.proofs.FoldingLemmas.{steps_fold}
+use Rattle.log_writer.specs.LastRenewals.{last_events}
 use Rattle.log_writer.specs.Kept.{hull_kept}
 use Rattle.log_writer.specs.Pavings.{BodyExtends, HasRun}
 use Rattle.moving_tube.specs.Hulls.{hull_with, hull_behind, hull_of, HullLies}
@@ -15,8 +17,10 @@ use Rattle.grid_model.specs.Boxes.{GridBox}
 use Rattle.sat_model.specs.Contractors.{LiesIn}
 use Rattle.sat_model.specs.BoxTests.{test_in}
 use Rattle.sat_model.specs.Cover.{is_kept}
-use Rattle.sat_model.specs.Events.{steps_in}
-use Rattle.sat_model.specs.Fold.{ShownStep, pieces}
+use Rattle.sat_model.specs.Events.{Event, Made, Renewed, RowsOver, steps_in}
+use Rattle.sat_model.specs.Fold.{ShownStep, first_boxes, pieces}
+use Rattle.sat_model.specs.declared.steps.Step.{Step}
+use Rattle.paving.specs.Turns.{events_of}
 use Rattle.sat_model.specs.KeptHulls as paved
 use Rattle.sat_model.specs.Logs.{Body, Block, is_few, rows_of, first_rows}
 use Rattle.sat_model.specs.Renewals.{AnyLine}
@@ -71,13 +75,23 @@ tube_told t tag root block blocks =
 
 -- ---- where it lies
 
-module _ (maker : Maker) (rules : Rules) (block : Block) (suits : Suits maker (rows_of block.sats)) where
-  run_folds : (body : Body) → HasRun maker rules block body → BodyFolds (Some body)
-  run_folds body r =
-      steps_fold AnyLine (first_rows block body) rules r.run.last.splits 0 (first_stage (test_in rules block) body.root) body.events
-      (rw r.events (turns_pass maker (test_in rules block) rules body.root r.shown suits r.run))
+-- rows that are renewed behind the last step are no step
+steps_before : (events : List Event) (last : Option RowsOver)
+    → steps_in (events ++ last_events last) ≡ steps_in events
+steps_before [] None = refl
+steps_before [] (Some new) = refl
+steps_before (Made step ∷ events) last = ap (λ (steps : List Step). step ∷ steps) (steps_before events last)
+steps_before (Renewed new ∷ events) last = steps_before events last
 
-  extends_folds : (given body : Option Body) → BodyExtends (HasRun maker rules) block given body
+module _ (directions : Option Directions) (maker : Maker) (rules : Rules) (block : Block) (suits : Suits maker (rows_of block.sats)) where
+  run_folds : (body : Body) → HasRun directions maker rules block body → BodyFolds (Some body)
+  run_folds body r =
+      let folds = steps_fold AnyLine (first_rows block body) rules r.run.last.splits 0 (first_stage (test_in rules block) body.root) (events_of r.shown)
+      (turns_pass maker (test_in rules block) rules body.root r.shown suits r.run) in
+      subst (λ (steps : List Step). StepsFold (first_boxes body.root) steps)
+      (sym (ap steps_in r.events ∙ steps_before (events_of r.shown) r.last)) folds
+
+  extends_folds : (given body : Option Body) → BodyExtends (HasRun directions maker rules) block given body
       → BodyFolds body
   extends_folds None None is = tt
   extends_folds None (Some body) is = absurd is
@@ -85,7 +99,7 @@ module _ (maker : Maker) (rules : Rules) (block : Block) (suits : Suits maker (r
   extends_folds (Some given) (Some body) is = run_folds body is.1
 
   same_root : (root : GridBox) (given body : Option Body) → HasRoot root given
-      → BodyExtends (HasRun maker rules) block given body
+      → BodyExtends (HasRun directions maker rules) block given body
       → (b : Body) → body ≡ Some b → b.root ≡ root
   same_root root None None has is b some = absurd cc
   same_root root None (Some body) has is b some = absurd is
@@ -95,7 +109,7 @@ module _ (maker : Maker) (rules : Rules) (block : Block) (suits : Suits maker (r
       subst (λ (l : Body). l.root ≡ root) same (is.0 ∙ has)
 
   pub told_lies : (root : GridBox) (given : Option Body) → LiesIn root root → HasRoot root given
-      → BodyExtends (HasRun maker rules) block given block.body
+      → BodyExtends (HasRun directions maker rules) block given block.body
       → HullLies (kept_told (is_few block) root (hull_kept block.body)) root
   told_lies root given own has is =
       subst (λ (o : Option GridBox). HullLies o root) (told_kept root block)

@@ -1,6 +1,7 @@
 -- What came from a source, said of another source that stands alike, where the first keeps what the
 -- second leaves out.
 use Rattle.std.proofs.Common.{◌≡◌, ℕ, Bool, true, List, [], ◌∷◌, Option, None, Some, Result, Ok, Err, refl, ap, sym, subst, ◌∙◌}
+use Rattle.bound_directions.specs.declared.directions.Directions.{Directions}
 use Rattle.epoch_rows.specs.EpochsLeft.{EpochsLeft, with_hand, IsEnded, GivesNext, source_of}
 use Rattle.epoch_rows.specs.Makers.{IsMakerFor, GivesBlock, GivesAny}
 use Rattle.epoch_rows.specs.Renewed.{Hand, IsGrownFrom, maker_from, maker_of}
@@ -8,8 +9,9 @@ use Rattle.epoch_rows.specs.declared.maker.RowMaker.{RowMaker}
 use Rattle.gnss_model.specs.declared.delays.Delays.{Delays}
 use Rattle.log_writer.specs.Breaks.{BrokeOff}
 use Rattle.log_writer.specs.Kept.{hull_kept, hull_of_last}
-use Rattle.log_writer.specs.Pieces.{pieces_with, version_of}
-use Rattle.log_writer.specs.Sources.{Source, Came, IsInHand}
+use Rattle.log_writer.specs.Pavings.{Paves}
+use Rattle.log_writer.specs.Pieces.{pieces_with}
+use Rattle.log_writer.specs.Sources.{Source, version_from, Came, IsInHand}
 use Rattle.log_writer.specs.Texts.{IsText}
 use Rattle.log_writer.specs.declared.fault.WriteFault.{WriteFault}
 use Rattle.grid_model.specs.Boxes.{GridBox, grid_box}
@@ -21,7 +23,7 @@ use Rattle.sat_rows.specs.declared.bases.Base.{Base}
 use Rattle.epoch_rows.proofs.BaseLemmas.{renewed_row}
 use Rattle.epoch_rows.proofs.MakerLemmas.{GoesAs, paves_as, begins_as}
 
-module _ {B C : Type 0} (source : Source B) (others : Source C) (Stands : B → C → Type 0) where
+module _ {B C : Type 0} (source : Source B) (others : Source C) (same_directions : source.directions ≡ others.directions) (Stands : B → C → Type 0) where
   -- the second gives the block too, and both stand alike behind it
   pub record GivesToo (was : C) (hull : Option GridBox) (block : Block) (new : B) : Type 0 where
     pub is : C
@@ -39,7 +41,9 @@ module _ {B C : Type 0} (source : Source B) (others : Source C) (Stands : B → 
     came_kept first last was hull (block ∷ blocks) stands (given, next, gave, paves, later) =
         let g = each first was hull given next stands gave in
         let (is, came, still) = came_kept next last g.is (hull_kept block.body) blocks g.stands later in
-        (is, (given, g.is, g.gave, paves_as (source.maker next) (others.maker g.is) g.goes rules given block paves, came), still)
+        let made = paves_as (source.maker next) (others.maker g.is) g.goes rules source.directions given block paves in
+        let same_made = subst (λ (directions : Option Directions). Paves directions (others.maker g.is) rules given block) same_directions made in
+        (is, (given, g.is, g.gave, same_made, came), still)
 
     in_hand_kept : (behind : B) (is : C) (hull : Option GridBox) (hand : Option Block)
         → Stands behind is → IsInHand source rules behind hull hand
@@ -48,6 +52,11 @@ module _ {B C : Type 0} (source : Source B) (others : Source C) (Stands : B → 
     in_hand_kept behind is hull (Some block) stands (given, next, gave, begins) =
         let g = each behind is hull given next stands gave in
         (given, g.is, g.gave, begins_as (source.maker next) (others.maker g.is) g.goes rules given block begins)
+
+    same_version : (first : B) (was : C)
+        → (source.maker first).active ≡ (others.maker was).active
+        → version_from source rules first ≡ version_from others rules was
+    same_version first was same = rw (same, same_directions) refl
 
     pub text_kept : {T : Type 0} (first last : B) (was : C) (limit : ℕ) (r : Result T WriteFault) (bytes said : List ℕ)
         → Stands first was
@@ -58,7 +67,7 @@ module _ {B C : Type 0} (source : Source B) (others : Source C) (Stands : B → 
         let (is, came, still) = came_kept first w.behind was None w.log.blocks stands w.came in
         record {
           log = w.log;
-          version = w.version ∙ ap (version_of rules) same;
+          version = w.version ∙ same_version first was same;
           same_rules = w.same_rules;
           behind = is;
           came = came;
@@ -77,7 +86,7 @@ module _ {B C : Type 0} (source : Source B) (others : Source C) (Stands : B → 
           came = came;
           hand = w.hand;
           in_hand = in_hand_kept w.behind is (hull_of_last None w.blocks) w.hand still w.in_hand;
-          broke = subst (λ (renews : Bool). BrokeOff limit (pieces_with (record { version = version_of rules renews; rules = rules; blocks = w.blocks }) w.hand) fault bytes said) same w.broke;
+          broke = subst (λ (version : ℕ). BrokeOff limit (pieces_with (record { version = version; rules = rules; blocks = w.blocks }) w.hand) fault bytes said) (same_version first was same) w.broke;
         }
 
 -- ---- the maker of a block's rows
@@ -120,17 +129,18 @@ any_end : (hand : Option Hand) (left : EpochsLeft) (hull : Option GridBox) (new 
 any_end hand left hull new e = record { over = e.over; lost = e.lost }
 
 -- What came from blocks that have a source of rows, rules, epochs that are left and a maker of rows came from these epochs.
-module _ {B S : Type 0} (rows_in : B → S) (rules_in : B → Rules) (left_in : B → EpochsLeft) (maker_in : B → RowMaker) (meaning : S → Meaning) where
+module _ {B S : Type 0} (rows_in : B → S) (rules_in : B → Rules) (left_in : B → EpochsLeft) (maker_in : B → RowMaker) (meaning : S → Meaning) (directions : Option Directions) where
   abbrev pub of_blocks : Source B
   of_blocks = record {
     gives = λ (old : B) (hull : Option GridBox) (next : Option Block) (new : B). (rows_in new ≡ rows_in old) × (rules_in new ≡ rules_in old) × ((maker_in new).renews ≡ (maker_in old).renews)
         × GivesAny (meaning (rows_in old)) (rules_in old).outliers (maker_in old).renews (left_in old) hull next (left_in new) (maker_in new);
     maker = λ (b : B). maker_from (maker_in b).renews (maker_in b).delays (grid_box (maker_in b).root) (maker_in b).bases.items;
+    directions = directions;
   }
 
   module _ (first : B) where
     abbrev Others : Source EpochsLeft
-    Others = source_of (meaning (rows_in first)) (rules_in first).outliers (maker_in first).renews
+    Others = source_of (meaning (rows_in first)) (rules_in first).outliers (maker_in first).renews directions
 
     -- the source, the rules and the maker are those of the first, and the same epochs are left
     record Stands (b : B) (left : EpochsLeft) : Type 0 where
@@ -151,7 +161,7 @@ module _ {B S : Type 0} (rows_in : B → S) (rules_in : B → Rules) (left_in : 
 
     each : (old : B) (was : EpochsLeft) (hull : Option GridBox) (block : Block) (new : B)
         → Stands old was → of_blocks.gives old hull (Some block) new
-        → GivesToo of_blocks Others Stands was hull block new
+        → GivesToo of_blocks Others refl Stands was hull block new
     each old was hull block new stands (rows, rules, renews, gave) =
         let m = meaning (rows_in first) in
         let q = (rules_in first).outliers in
@@ -172,7 +182,7 @@ module _ {B S : Type 0} (rows_in : B → S) (rules_in : B → Rules) (left_in : 
 
     pub text_of_epochs : {T : Type 0} (last : B) (rules : Rules) (limit : ℕ) (r : Result T WriteFault) (bytes said : List ℕ)
         → IsText of_blocks rules first last limit r bytes said
-        → IsText (source_of (meaning (rows_in first)) (rules_in first).outliers (maker_in first).renews) rules (left_in first) (left_in last) limit r bytes said
+        → IsText (source_of (meaning (rows_in first)) (rules_in first).outliers (maker_in first).renews directions) rules (left_in first) (left_in last) limit r bytes said
     text_of_epochs last rules limit r bytes said text =
-        text_kept of_blocks Others Stands left_in each ends rules first last (left_in first) limit r bytes said
+        text_kept of_blocks Others refl Stands left_in each ends rules first last (left_in first) limit r bytes said
         (record { rows = refl; rules = refl; renews = refl; left_is = refl }) refl text

@@ -3,13 +3,15 @@ use Rattle.std.proofs.Common.{◌≡◌, ℕ, zero, suc, ◌+◌, true, List, []
 use Rattle.std.specs.Prelude.{Option, None, Some, slice_get}
 use Rattle.std.specs.List.{AllByRecursion}
 use Rattle.std.proofs.lemmas.Option.{same_Some}
+use Rattle.bound_directions.specs.declared.directions.Directions.{Directions}
 use Rattle.grid_model.specs.Boxes.{GridBox}
+use Rattle.log_writer.specs.LastRenewals.{RenewsOver, RenewsIf, RenewsLast, last_events}
 use Rattle.log_writer.specs.Pavings.{BodyExtends, Extends, HasRun, Paves, HasBegun, Begins}
 use Rattle.paving.specs.Renewing.{Maker, GivesFrom, Renews}
 use Rattle.paving.specs.Runs.{TurnsBegun}
 use Rattle.paving.specs.Turns.{Turn, ShownEvent, OfStep, shown_new, joined_turns, events_of, used_after, worked_on, behind_turn, test_after, PavesTurns, PavedTurns}
 use Rattle.sat_model.specs.BoxTests.{BoxTest}
-use Rattle.sat_model.specs.Events.{RowsOver, rows_over, renewals_in}
+use Rattle.sat_model.specs.Events.{Event, Made, Renewed, RowsOver, rows_over, renewals_in}
 use Rattle.sat_model.specs.Fold.{ShownStep}
 use Rattle.sat_model.specs.Logs.{Body, Block, rows_of}
 use Rattle.sat_model.specs.Waiting.{WaitingBox, Paving}
@@ -89,12 +91,30 @@ module _ (maker other : Maker) (goes : GoesAs maker other) (rules : Rules) where
     body = body_as Runs Others block given.body block.body as_runs e.body;
   }
 
-  pub paves_as : (given block : Block) → Paves maker rules given block
-      → Paves other rules given block
+  over_as : (used : GridBox) (hull : Option GridBox) (n : ℕ) (last : Option RowsOver)
+      → RenewsOver maker used hull n last → RenewsOver other used hull n last
+  over_as used hull n None none = λ part active is half. none part (goes.active ∙ active) is half
+  over_as used hull n (Some new) (active, is, half, many, gives) = (sym goes.active ∙ active, is, half, many, rows_as active 0 new.part new.rows gives)
+
+  last_as : (directions : Option Directions) (used : GridBox) (hull : Option GridBox) (n : ℕ) (last : Option RowsOver)
+      → RenewsIf directions maker used hull n last → RenewsIf directions other used hull n last
+  last_as None used hull n last none = none
+  last_as (Some directions) used hull n last renews = over_as used hull n last renews
+
+  pub paves_as : (directions : Option Directions) (given block : Block)
+      → Paves directions maker rules given block → Paves directions other rules given block
   unfolding paved_as
-  paves_as given block paves =
-      extends_as (HasRun maker rules) (HasRun other rules) given block
-      (λ body h. record { shown = h.shown; run = paved_as _ body.root h.shown h.run; events = h.events; done = h.done; bounds = h.bounds }) paves
+  paves_as directions given block paves =
+      extends_as (HasRun directions maker rules) (HasRun directions other rules) given block
+      (λ body h. record {
+        shown = h.shown;
+        run = paved_as _ body.root h.shown h.run;
+        last = h.last;
+        renews = last_as directions _ _ _ h.last h.renews;
+        events = h.events;
+        done = h.done;
+        bounds = h.bounds;
+      }) paves
 
   pub begins_as : (given block : Block) → Begins maker rules given block
       → Begins other rules given block
@@ -142,10 +162,27 @@ module _ (maker : Maker) (rules : Rules) where
       (new_given n used paving.test many paving.splits behind.splits behind.waiting turn.renewed (joined_turns turns) renews
       (turns_given n (used_after used turn.renewed) (behind_turn paving rest turn) turns last (still_many n used paving.test many paving.splits behind.splits behind.waiting turn.renewed renews) more))
 
+  last_given : (directions : Option Directions) (used : GridBox) (hull : Option GridBox) (n : ℕ) (last : Option RowsOver)
+      → RenewsIf directions maker used hull n last → AreGiven n (renewals_in (last_events last))
+  last_given None used hull n last none = rw none tt
+  last_given (Some directions) used hull n None renews = tt
+  last_given (Some directions) used hull n (Some new) (active, is, half, many, gives) = (record { rows = gives; many = many }, tt)
+
+  given_behind : (n : ℕ) (first more : List Event) → AreGiven n (renewals_in first)
+      → AreGiven n (renewals_in more) → AreGiven n (renewals_in (first ++ more))
+  given_behind n [] more all later = later
+  given_behind n (Made step ∷ first) more all later = given_behind n first more all later
+  given_behind n (Renewed new ∷ first) more all later = (all.0, given_behind n first more all.1 later)
+
   -- those of a run from the rows of a block
-  pub run_given : (block : Block) (body : Body) → HasRun maker rules block body
+  pub run_given : (directions : Option Directions) (block : Block) (body : Body)
+      → HasRun directions maker rules block body
       → AllByRecursion (IsGiven (length (rows_of block.sats))) (renewals_in body.events)
-  run_given block body h = rw (h.events, h.run.all_events) (turns_given (length (rows_of block.sats)) body.root _ h.run.turns h.run.last refl h.run.paves)
+  run_given directions block body h =
+      let n = length (rows_of block.sats) in
+      let turns : AreGiven n (renewals_in (events_of h.shown)) = rw h.run.all_events (turns_given n body.root _ h.run.turns h.run.last refl h.run.paves) in
+      rw h.events (given_behind n (events_of h.shown) (last_events h.last) turns
+      (last_given directions _ _ n h.last h.renews))
 
   row_from : (from : ℕ) (part : GridBox) (rows : List Row) (i : ℕ) (row : Row)
       → GivesFrom maker from part rows → slice_get rows i ≡ Some row

@@ -1,6 +1,7 @@
 -- The epochs of a file as a source of blocks, each of which is formed when the one before is
 -- finished, over the box in which a walk searches it then.
 use Rattle.std.specs.Prelude.{◌≡◌, ℕ, ℤ, Bool, true, false, List, [], ◌∷◌, Option, None, Some}
+use Rattle.bound_directions.specs.declared.directions.Directions.{Directions}
 use Rattle.epoch_selection.specs.Searches.{Search, search_in}
 use Rattle.epoch_selection.specs.Walks.{MakesNone}
 use Rattle.log_writer.specs.Kept.{hull_kept}
@@ -137,9 +138,10 @@ module _ (m : Meaning) (q : ℕ) where
   of_epochs old hull None new = IsEnded old hull new
   of_epochs old hull (Some block) new = GivesNext old hull block new
 
-  -- its rows are renewed, or aren't
-  abbrev pub source_of : Bool → Source EpochsLeft
-  source_of renews = record {
+  -- its rows are renewed, or aren't, and bounds are asked for in these directions, if in any
+  abbrev pub source_of : Bool → Option Directions → Source EpochsLeft
+  source_of renews directions = record {
     gives = of_epochs;
     maker = λ (left : EpochsLeft). maker_of m renews left.hand;
+    directions = directions;
   }

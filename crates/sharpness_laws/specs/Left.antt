@@ -3,6 +3,7 @@
 use Rattle.std.specs.Prelude.{◌≡◌, ℕ, ◌≤◌, pos, ◌<ℤ◌, Bool, List, [], ◌∷◌, length, Option, None}
 use Rattle.std.specs.Prelude.{Some}
 use Rattle.std.specs.List.{AllByRecursion}
+use Rattle.bound_directions.specs.declared.directions.Directions.{Directions}
 use Rattle.box_contraction.specs.Cuts.{eighth_of, eighths}
 use Rattle.epoch_rows.specs.Renewed.{hand_of, maker_of}
 use Rattle.epoch_selection.specs.Searches.{Search}
@@ -60,12 +61,12 @@ module _ (m : Meaning) (rules : Rules) (search : Search) where
 abbrev pub maker_in : Meaning → Bool → Search → Block → Maker
 maker_in m renews search block = maker_of m renews (Some (hand_of search block))
 
-module _ (m : Meaning) (renews : Bool) (rules : Rules) where
+module _ (m : Meaning) (renews : Bool) (directions : Option Directions) (rules : Rules) where
   -- a paved block has a run over its root, which leaves nothing clear there
   abbrev pub BodyLeavesNothingClear : Search → Block → Option Body → Type 0
   BodyLeavesNothingClear search block None = Unit {0}
   BodyLeavesNothingClear search block (Some body) = (body.root ≡ search.root)
-      × (paved : HasRun (maker_in m renews search block) rules block body)
+      × (paved : HasRun directions (maker_in m renews search block) rules block body)
       × NothingClearIn m rules search body.done paved.shown
 
   -- A block in hand has the first events of one, which leave nothing clear either. The splits are

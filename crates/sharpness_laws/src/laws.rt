@@ -1,6 +1,8 @@
 //! Laws of clear boxes.
 
-ghost use Rattle.std.specs.Prelude.{◌≡◌, ◌+◌, ◌*◌, ◌≤◌, ℕ, Bool, List, pos, None, Some, map};
+ghost use Rattle.std.specs.Prelude.{◌≡◌, ◌+◌, ◌*◌, ◌≤◌, ℕ, Bool, List, pos, Option, None, Some};
+ghost use Rattle.std.specs.Prelude.{map};
+ghost use Rattle.bound_directions.specs.declared.directions.Directions.{Directions};
 ghost use Rattle.sharpness_laws.specs.Clear.{IsEmptyBy, IsInnerBy};
 ghost use Rattle.sharpness_laws.specs.Left.{NothingClearIn, BlocksLeaveNothingClear};
 ghost use Rattle.sharpness_laws.specs.Left.{LogLeavesNothingClear};
@@ -72,18 +74,20 @@ pub fn runs_leave_nothing_clear<S: RowSource>()
 /// left of a log whose epochs are searched in any roots, up to the block in hand. The call does
 /// nothing.
 pub fn logs_leave_nothing_clear<S: RowSource>()
-    ensures whole { (source : S) (renews : Bool) (rules : Rules) (root : Box3)
-        (epochs : List ObsEpoch) (blocks : List Block)
+    ensures whole { (source : S) (renews : Bool) (directions : Option Directions)
+        (rules : Rules) (root : Box3) (epochs : List ObsEpoch) (blocks : List Block)
         → IsSearchBox (grid_box root)
         → AllDistinctIf renews epochs
-        → AreSolved (S.meaning source) renews rules (searches_in (grid_box root) epochs) blocks
-        → LogLeavesNothingClear (S.meaning source) renews rules
+        → AreSolved (S.meaning source) renews directions rules
+        (searches_in (grid_box root) epochs) blocks
+        → LogLeavesNothingClear (S.meaning source) renews directions rules
         (searches_in (grid_box root) epochs) blocks }
-    ensures begun { (source : S) (renews : Bool) (rules : Rules) (left : EpochsLeft)
-        (fault : WriteFault) (limit : ℕ) (bytes said : List ℕ) → left.last ≡ None
+    ensures begun { (source : S) (renews : Bool) (directions : Option Directions)
+        (rules : Rules) (left : EpochsLeft) (fault : WriteFault) (limit : ℕ) (bytes said : List ℕ)
+        → left.last ≡ None
         → AllDistinctIf renews left.epochs
-        → (begun : IsBegun fault (source_of (S.meaning source) rules.outliers renews) rules left
-        limit bytes said)
-        → BlocksLeaveNothingClear (S.meaning source) renews rules
+        → (begun : IsBegun fault (source_of (S.meaning source) rules.outliers renews directions)
+        rules left limit bytes said)
+        → BlocksLeaveNothingClear (S.meaning source) renews directions rules
         (left.searches None begun.blocks) begun.blocks begun.hand }
 {}

@@ -1,4 +1,4 @@
-use Rattle.std.proofs.Common.{ℕ, [], ◌∷◌, List, length, map, refl, ap, subst}
+use Rattle.std.proofs.Common.{ℕ, false, [], ◌∷◌, List, length, map, refl, ap, subst}
 use Rattle.std.specs.Vec.Iter.{into_iter_items}
 use Rattle.input_files.proofs.ReadingLemmas.{found_value, named_fair}
 use Rattle.input_files.specs.Logs.{rows_text}
@@ -35,7 +35,7 @@ returns g c =
           blocks_of (λ old hull next new gave. gave) (λ blocks. refl) rows.rules
           c.of_log-blocks.result last limits.log answer bytes said text),
     ))
-    (ap (λ (blocks : List Block). most_bytes (length blocks) rows.rules.bisections) made.rest)
+    (ap (λ (blocks : List Block). most_bytes false (length blocks) rows.rules.bisections) made.rest)
     s c.write_named.ensures.log in
     let does = writes_behind ((slot.Rows, c.args.rows.now) ∷ []) _ _ _ _ _ rows c.in-Ok.ensures.only refl refl
     limits.log _ (IsPaved (log_value rows) limits.log) s wrote in

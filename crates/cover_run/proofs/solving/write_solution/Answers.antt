@@ -1,4 +1,5 @@
 use Rattle.std.specs.Option.{option_map}
+use Rattle.std.specs.Prelude.{is_some}
 use Rattle.std.proofs.Common.{[], List, None, length, ap, rules, subst, sym, ◌∙◌}
 use Rattle.sharpness_laws.proofs.LogLemmas.{writable_distinct}
 use Rattle.sharpness_laws.specs.UsableRows.{AllDistinctIf}
@@ -42,6 +43,8 @@ returns g c =
     let last = c.write_named.new.blocks in
     let meaning = λ (s : FileRows). rows_meaning s.nav.now s.settings.now (option_map station_of s.station) in
     let renews = i.settings.renew in
+    let directions = i.settings.directions in
+    let wanted = c.wanted_by-wanted.ensures in
     let here = made.left ∙ ap (λ (epochs : List ObsEpoch). left_in (selected chosen epochs)
     (λ blocks. searches_in root (selected chosen epochs))) c.deref.ensures.value in
     let distinct = subst (λ (epochs : List ObsEpoch). AllDistinctIf renews epochs)
@@ -52,12 +55,12 @@ returns g c =
     writes_as [] _ _ _ _ limit _ _ _ (IsSolution chosen i limit)
     (λ answer bytes said text. solution_of chosen i root behind limit answer bytes said
     c.root.ensures.value distinct
-    (text_known (meaning_of i) (meaning b.source.now) b.rules rules b.maker.renews renews _ _ behind
+    (text_known (meaning_of i) (meaning b.source.now) b.rules rules b.maker.renews renews directions _ _ behind
     limit answer bytes said (ap meaning made.source ∙ rows_mean i c.rows_of-source.result
     c.rows_of-source.ensures.nav c.rows_of-source.ensures.settings c.rows_of-source.ensures.station) made.rules made.renews here
     (text_of_epochs (λ x. x.source.now) (λ x. x.rules)
     (λ x. left_of (epochs_left x.walk) (λ blocks. searches_left x.walk)
     (λ tag kept blocks. searches_left x.walk) x.given x.lost)
-    (λ x. x.maker) meaning b last rules limit answer bytes said text)))
-    (ap (λ (left : EpochsLeft). most_bytes (length left.epochs) rules.bisections) here)
-    c.write_named.result c.write_named.ensures.log
+    (λ x. x.maker) meaning directions b last rules limit answer bytes said text)))
+    (ap (λ (left : EpochsLeft). most_bytes (is_some directions) (length left.epochs) rules.bisections) here)
+    c.write_named.result (rw (wanted.rules, wanted.directions) at c.write_named.ensures.log)

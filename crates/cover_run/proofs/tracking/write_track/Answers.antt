@@ -14,7 +14,7 @@ use Rattle.station_epochs.specs.Stations.{station_of}
 use Rattle.station_rows.specs.Stations.{rows_meaning}
 use Rattle.station_rows.specs.declared.sources.FileRows.{FileRows}
 use Rattle.rinex_obs.specs.declared.obs.ObsEpoch.{ObsEpoch}
-use Rattle.std.specs.Prelude.{None}
+use Rattle.std.specs.Prelude.{None, is_some}
 use Rattle.tube_searches.specs.Tubes.{TubeValue, IsInside, tube_searches, tube_value, with_kept}
 use Rattle.cover_run.proofs.SolvingLemmas.{rows_mean, rows_skips, text_known}
 use Rattle.cover_run.proofs.TrackingLemmas.{broken_off, told_lost, track_of}
@@ -40,6 +40,8 @@ returns-then-eq g c =
     let i = c.args.inputs.now in
     let given = i.settings.rules in
     let renews = i.settings.renew in
+    let directions = i.settings.directions in
+    let wanted = c.wanted_by-wanted.ensures in
     let limit = c.args.limits.now.log in
     let chosen = c.args.chosen in
     let made = c.of_walk-blocks.ensures in
@@ -58,19 +60,19 @@ returns-then-eq g c =
     let distinct = subst (λ (epochs : List ObsEpoch). AllDistinctIf renews epochs)
     (ap (λ (left : EpochsLeft). left.epochs) here)
     (writable_distinct renews (index_of b.given) (epochs_left b.walk.searches) made.can.epochs_are) in
-    let most = ap (λ (l : EpochsLeft). most_bytes (length l.epochs) given.bisections) here in
+    let most = ap (λ (l : EpochsLeft). most_bytes (is_some directions) (length l.epochs) given.bisections) here in
     let wrote = writes_as [] _ _ _ _ limit _ _ _ _
     (λ answer bytes said text. text_known (meaning_of i) (meaning b.source.now) b.rules given
-    b.maker.renews renews _ _ behind limit answer bytes said (ap meaning made.source ∙ rows_mean i c.rows_of-source.result
+    b.maker.renews renews directions _ _ behind limit answer bytes said (ap meaning made.source ∙ rows_mean i c.rows_of-source.result
     c.rows_of-source.ensures.nav c.rows_of-source.ensures.settings c.rows_of-source.ensures.station) made.rules
     made.renews here
     (text_of_epochs (λ x. x.source.now) (λ x. x.rules)
     (λ x. left_of (epochs_left x.walk.searches) (λ blocks. tube_searches (tube_value x.walk) blocks)
     (λ tag kept blocks. tube_searches (with_kept (tube_value x.walk) tag kept) blocks) x.given x.lost)
-    (λ x. x.maker) meaning b last given limit answer bytes said text)) most
-    c.write_named-status.result c.write_named-status.ensures.log in
+    (λ x. x.maker) meaning directions b last given limit answer bytes said text)) most
+    c.write_named-status.result (rw (wanted.rules, wanted.directions) at c.write_named-status.ensures.log) in
     let is : c.write_named-status.result ≡ status.Done = search rules in
-    let told = told_lost (meaning_of i) given.outliers renews i (moving chosen i box tube.speed) behind
+    let told = told_lost (meaning_of i) given.outliers renews directions i (moving chosen i box tube.speed) behind
     refl limit _ _ _ _ _ c.write_named-status.ensures.later _ _ _ _ _ is wrote
     (rw c.lost.ensures at c.tell_lost.ensures) in
     writes_as [] _ _ _ _ limit _ _ _ (IsTrack chosen i limit)
@@ -82,6 +84,8 @@ returns g c =
     let i = c.args.inputs.now in
     let given = i.settings.rules in
     let renews = i.settings.renew in
+    let directions = i.settings.directions in
+    let wanted = c.wanted_by-wanted.ensures in
     let limit = c.args.limits.now.log in
     let chosen = c.args.chosen in
     let made = c.of_walk-blocks.ensures in
@@ -100,19 +104,19 @@ returns g c =
     let distinct = subst (λ (epochs : List ObsEpoch). AllDistinctIf renews epochs)
     (ap (λ (left : EpochsLeft). left.epochs) here)
     (writable_distinct renews (index_of b.given) (epochs_left b.walk.searches) made.can.epochs_are) in
-    let most = ap (λ (l : EpochsLeft). most_bytes (length l.epochs) given.bisections) here in
+    let most = ap (λ (l : EpochsLeft). most_bytes (is_some directions) (length l.epochs) given.bisections) here in
     let wrote = writes_as [] _ _ _ _ limit _ _ _ _
     (λ answer bytes said text. text_known (meaning_of i) (meaning b.source.now) b.rules given
-    b.maker.renews renews _ _ behind limit answer bytes said (ap meaning made.source ∙ rows_mean i c.rows_of-source.result
+    b.maker.renews renews directions _ _ behind limit answer bytes said (ap meaning made.source ∙ rows_mean i c.rows_of-source.result
     c.rows_of-source.ensures.nav c.rows_of-source.ensures.settings c.rows_of-source.ensures.station) made.rules
     made.renews here
     (text_of_epochs (λ x. x.source.now) (λ x. x.rules)
     (λ x. left_of (epochs_left x.walk.searches) (λ blocks. tube_searches (tube_value x.walk) blocks)
     (λ tag kept blocks. tube_searches (with_kept (tube_value x.walk) tag kept) blocks) x.given x.lost)
-    (λ x. x.maker) meaning b last given limit answer bytes said text)) most
-    c.write_named-status.result c.write_named-status.ensures.log in
+    (λ x. x.maker) meaning directions b last given limit answer bytes said text)) most
+    c.write_named-status.result (rw (wanted.rules, wanted.directions) at c.write_named-status.ensures.log) in
     let other : c.write_named-status.result ≢ status.Done = search rules in
-    let told = broken_off (meaning_of i) given.outliers renews i (moving chosen i box tube.speed) behind
+    let told = broken_off (meaning_of i) given.outliers renews directions i (moving chosen i box tube.speed) behind
     refl limit _ _ _ _ _ c.write_named-status.result other wrote in
     writes_as [] _ _ _ _ limit _ _ _ (IsTrack chosen i limit)
     (λ answer bytes said text. track_of chosen i box tube.speed behind limit answer bytes said is_tube
