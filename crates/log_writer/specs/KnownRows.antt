@@ -18,7 +18,7 @@ use Rattle.log_writer.specs.Texts.{IsText}
 
 -- the log has the rules and blocks of the rows, and paves each root
 pub record IsPavingOf (rows log : LogValue) : Type 0 where
-  pub version : log.version ≡ version_of rows.rules false
+  pub version : log.version ≡ version_of rows.rules false false
   pub rules : log.rules ≡ rows.rules
   pub blocks : AllPave idle rows.rules rows.blocks log.blocks
 

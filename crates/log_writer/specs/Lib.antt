@@ -1,4 +1,8 @@
 pub mod Kept
+pub mod LastRenewals
+pub mod Bounding
+pub mod InUse
+pub mod Found
 pub mod Pavings
 pub mod Sources
 pub mod RowsFrom

@@ -10,8 +10,8 @@ use Rattle.epoch_report.specs.Reports.{report_text}
 use Rattle.log_writer.specs.declared.fault.WriteFault.{WriteFault}
 use Rattle.log_writer.specs.Breaks.{BrokeOff}
 use Rattle.log_writer.specs.Kept.{hull_of_last}
-use Rattle.log_writer.specs.Pieces.{pieces_with, version_of}
-use Rattle.log_writer.specs.Sources.{Source, Came, IsInHand}
+use Rattle.log_writer.specs.Pieces.{pieces_with}
+use Rattle.log_writer.specs.Sources.{Source, version_from, Came, IsInHand}
 
 -- The text and the report of one log. Its blocks are all that the source gave, each one paved
 -- before the next was given; then it had no more, and stood so. The log passes all tests, and its
@@ -19,7 +19,7 @@ use Rattle.log_writer.specs.Sources.{Source, Came, IsInHand}
 pub record IsWhole {B : Type 0} (source : Source B) (rules : Rules) (first last : B) (limit : ℕ)
     (bytes said : List ℕ) : Type 0 where
   pub log : LogValue
-  pub version : log.version ≡ version_of rules (source.maker first).active
+  pub version : log.version ≡ version_from source rules first
   pub same_rules : log.rules ≡ rules
   pub behind : B
   pub came : Came source rules first None log.blocks behind
@@ -30,8 +30,9 @@ pub record IsWhole {B : Type 0} (source : Source B) (rules : Rules) (first last 
   pub cover : RowCover log
   pub fits : length bytes ≤ limit
 
--- What this fault left of the head, of blocks whose runs are whole, and of the first lines of one
--- more whose run broke off, where one was in hand. They came from the source, each when the one
+-- What this fault left of the head, of blocks whose runs are whole, the last one with the bounds that
+-- were found when it came, and of the first lines of one more whose run broke off, where one was in
+-- hand. They came from the source, each when the one
 -- before was finished. That a run which broke off goes on to the end isn't said, and nothing is of
 -- later blocks.
 pub record IsBegun {B : Type 0} (fault : WriteFault) (source : Source B) (rules : Rules) (first : B)
@@ -42,7 +43,7 @@ pub record IsBegun {B : Type 0} (fault : WriteFault) (source : Source B) (rules 
   pub hand : Option Block
   pub in_hand : IsInHand source rules behind (hull_of_last None blocks) hand
   pub broke : BrokeOff limit (pieces_with (record {
-    version = version_of rules (source.maker first).active;
+    version = version_from source rules first;
     rules = rules;
     blocks = blocks;
   }) hand) fault bytes said

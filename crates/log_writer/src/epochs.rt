@@ -1,7 +1,7 @@
 //! The head of a log, and its epochs.
 
 ghost use Rattle.std.specs.Prelude.{◌≡◌, ◌+◌, ◌<◌, ◌≤◌, Option, length, map, true};
-ghost use Rattle.std.specs.Prelude.{false, None, Err, IfOk, IfErr};
+ghost use Rattle.std.specs.Prelude.{false, None, is_some, Err, IfOk, IfErr};
 ghost use Rattle.std.specs.List.{AllByRecursion};
 ghost use Rattle.log_writer.specs.Pieces.{alone, head_pieces, version_of};
 ghost use Rattle.log_writer.specs.Sizes.{most_sats};
@@ -19,54 +19,57 @@ ghost use Rattle.sat_model.specs.BoxTests.{test_of};
 ghost use Rattle.sat_model.specs.Logs.{rows_of, is_few};
 
 use crate::blocks::Blocks;
+use crate::closing::{Search, put_closing};
 use crate::fault::WriteFault;
+use crate::outcome::Outcome;
 use crate::pen::Pen;
 use crate::steps::Track;
-use epoch_report::{Counts4, epoch_text, total_text};
+use crate::wanted::Wanted;
+use epoch_report::{Counts4, epoch_text};
 use grid_model::{Box3, NoMemory};
-use log_lines::{done_line, epoch_line, head_lines, root_line, sat_line};
+use log_lines::{epoch_line, head_lines, root_line, sat_line};
 use paving::{Plan, Renewals, StepFault, pave};
 use paving_log::{LogEpoch, SatEntry, rows_among};
-use sat_model::Rules;
+use sat_model::{Row, Rules};
 use std::alloc::Global;
 
 /// The bytes of the first line of a head.
 const VERSION_LENGTH: usize = 11;
 
-/// What is to be paved by the rows among the satellite lines.
-fn plan_of(alloc: Global, rules: &Rules, sats: &[SatEntry], root: &Box3) -> Result<Plan, WriteFault>
-    requires enough { rules.now.outliers + 4 ≤ length (rows_of sats.now) }
-    requires at_most { length (rows_of sats.now) ≤ most_sats }
-    ensures test { IfOk result (λ plan. plan.test ≡ test_of rules.now (rows_of sats.now)) }
+/// What is to be paved by these rows.
+fn plan_of(alloc: Global, rows: &[Row], rules: &Rules, root: &Box3) -> Result<Plan, WriteFault>
+    requires { (rules.now.outliers + 4 ≤ length rows.now) × (length rows.now ≤ most_sats) }
+    ensures test { IfOk result (λ plan. plan.test ≡ test_of rules.now rows.now) }
     ensures rules { IfOk result (λ plan. plan.rules ≡ rules.now) }
     ensures root { IfOk result (λ plan. plan.root ≡ root.now) }
     ensures no_memory { IfErr result (λ fault. fault ≡ WriteFault.NoMemory) }
 {
-    let rows = rows_among(alloc, sats)?;
-    match Plan::make(alloc, &rows, rules, root) {
+    match Plan::make(alloc, rows, rules, root) {
         Ok(plan) => Ok(plan),
         Err(NoMemory) => Err(WriteFault::NoMemory),
     }
 }
 
-/// The version of a log by these rules, whose rows may be renewed or not.
-fn version_for(rules: &Rules, renews: bool) -> u8
-    ensures { result ≡ version_of rules.now renews }
+/// The version of a log by these rules, whose rows may be renewed or not, with bounds or without.
+fn version_for(rules: &Rules, renews: bool, bounded: bool) -> u8
+    ensures { result ≡ version_of rules.now renews bounded }
 {
-    match (rules.pairs, renews) {
-        (true, _) => 3,
-        (false, true) => 2,
-        (false, false) => 1,
+    match (bounded, rules.pairs, renews) {
+        (true, _, _) => 4,
+        (false, true, _) => 3,
+        (false, false, true) => 2,
+        (false, false, false) => 1,
     }
 }
 
 /// Writes the two lines of the head.
-fn put_head<P: Pen>(pen: &mut P, rules: &Rules, renews: bool) -> Result<(), WriteFault>
-    ensures written { Written (P.seen pen.old)
-        (head_pieces (version_of rules.now renews) rules.now) result (P.seen pen.new) }
+fn put_head<P: Pen>(pen: &mut P, wanted: &Wanted, renews: bool) -> Result<(), WriteFault>
+    ensures written { Written (P.seen pen.old) (head_pieces (version_of wanted.now.rules renews
+        (is_some wanted.now.directions)) wanted.now.rules) result (P.seen pen.new) }
     ensures trust { Trusts (P.trust pen.old) result (P.trust pen.new) }
 {
-    let lines = head_lines(version_for(rules, renews), rules);
+    let version = version_for(&wanted.rules, renews, wanted.directions.is_some());
+    let lines = head_lines(version, &wanted.rules);
     let (version, rules_line) = lines.as_bytes().split_at(VERSION_LENGTH);
     pen.put(version, &[])?;
     pen.put(rules_line, &[])
@@ -86,13 +89,6 @@ fn put_sats<P: Pen>(pen: &mut P, sats: &[SatEntry]) -> Result<(), WriteFault>
     Ok(())
 }
 
-/// What came of the steps of a paving.
-#[derive(Drop)]
-pub(crate) struct Outcome {
-    counts: Counts4,
-    kept: Option<Box3>,
-}
-
 /// Writes the steps of a paving, and the renewals among them, as they are made.
 fn pave_on<P: Pen, M: Renewals>(
     track: &mut Track<'_, P>,
@@ -103,7 +99,7 @@ fn pave_on<P: Pen, M: Renewals>(
     requires root { (M.maker maker.now).active ≡ true → M.root maker.now ≡ grid_box plan.root }
     requires sats { (M.maker maker.now).active ≡ true
         → M.sats maker.now ≡ map (λ row. row.sat) plan.test.rows }
-    requires none { track.old.kept ≡ None }
+    requires none { (track.old.kept ≡ None) × (track.old.renewed ≡ None) }
     ensures written { WroteSteps (M.maker maker.now) plan.test plan.rules (grid_box plan.root)
         (P.seen track.old.pen.now) result (P.seen track.new.pen.now) }
     ensures trust { Trusts (P.trust track.old.pen.now) result (P.trust track.new.pen.now) }
@@ -118,6 +114,7 @@ fn pave_on<P: Pen, M: Renewals>(
                 bisections: counts.bisections,
             },
             kept: track.kept,
+            renewed: track.renewed.take(),
         }),
         Err(StepFault::Failed) => Err(track.last),
         Err(StepFault::Full) => Err(track.last),
@@ -138,32 +135,35 @@ fn put_steps<P: Pen, M: Renewals>(pen: &mut P, plan: Plan, maker: &M) -> Result<
         pen,
         last: WriteFault::NoMemory,
         kept: None,
+        renewed: None,
     };
     pave_on(&mut track, plan, maker)
 }
 
-/// Writes the root, its steps and renewals, and the number of splits with the total.
+/// Writes the root, its steps and renewals, the number of splits with the total, and the bounds.
 fn put_run<P: Pen, M: Renewals>(
     pen: &mut P,
     plan: Plan,
-    root: &Box3,
+    search: &Search<'_>,
     maker: &M,
 ) -> Result<Option<Box3>, WriteFault>
-    requires same { plan.root ≡ root.now }
-    requires rows { AllByRecursion RowFits plan.test.rows }
-    requires root { (M.maker maker.now).active ≡ true → M.root maker.now ≡ grid_box plan.root }
+    requires plan { (plan.test ≡ test_of search.now.wanted.now.rules search.now.rows.now)
+        × (plan.rules ≡ search.now.wanted.now.rules) × (plan.root ≡ search.now.root.now) }
+    requires few { length search.now.rows.now ≤ 64 }
+    requires rows { AllByRecursion RowFits search.now.rows.now }
+    requires root { (M.maker maker.now).active ≡ true
+        → M.root maker.now ≡ grid_box search.now.root.now }
     requires sats { (M.maker maker.now).active ≡ true
-        → M.sats maker.now ≡ map (λ row. row.sat) plan.test.rows }
-    ensures written { WroteRun (M.maker maker.now) plan.test plan.rules (grid_box plan.root)
-        (P.seen pen.old) result (P.seen pen.new) }
+        → M.sats maker.now ≡ map (λ row. row.sat) search.now.rows.now }
+    ensures written { WroteRun search.now.wanted.now.directions (M.maker maker.now)
+        (test_of search.now.wanted.now.rules search.now.rows.now) search.now.wanted.now.rules
+        (grid_box search.now.root.now) (P.seen pen.old) result (P.seen pen.new) }
     ensures trust { Trusts (P.trust pen.old) result (P.trust pen.new) }
 {
-    let first = root_line(root);
+    let first = root_line(search.root);
     pen.put(first.as_bytes(), &[])?;
     let done = put_steps(pen, plan, maker)?;
-    let last = done_line(done.counts.bisections);
-    let total = total_text(&done.counts);
-    pen.put(last.as_bytes(), total.as_bytes())?;
+    put_closing(pen, search, &done, maker)?;
     Ok(done.kept)
 }
 
@@ -172,17 +172,17 @@ fn put_run<P: Pen, M: Renewals>(
 fn put_epoch<P: Pen, M: Renewals>(
     alloc: Global,
     pen: &mut P,
-    rules: &Rules,
+    wanted: &Wanted,
     epoch: &LogEpoch,
     maker: &M,
 ) -> Result<Option<Box3>, WriteFault>
     requires fits { BlockFits form.Rows (block_of epoch.now) }
     requires enough { is_few (block_of epoch.now) ≡ false
-        → rules.now.outliers + 4 ≤ length (rows_of epoch.now.sats.items) }
+        → wanted.now.rules.outliers + 4 ≤ length (rows_of epoch.now.sats.items) }
     requires serves { (M.maker maker.now).active ≡ true
         → Serves (M.sats maker.now) (M.root maker.now) (block_of epoch.now) }
-    ensures written { WroteBlock (M.maker maker.now) rules.now (block_of epoch.now)
-        (P.seen pen.old) result (P.seen pen.new) }
+    ensures written { WroteBlock wanted.now.directions (M.maker maker.now) wanted.now.rules
+        (block_of epoch.now) (P.seen pen.old) result (P.seen pen.new) }
     ensures trust { Trusts (P.trust pen.old) result (P.trust pen.new) }
 {
     let first = epoch_line(epoch.is_few(), epoch.index, epoch.ps, epoch.n);
@@ -191,8 +191,14 @@ fn put_epoch<P: Pen, M: Renewals>(
     put_sats(pen, &epoch.sats)?;
     match &epoch.body {
         Some(body) => {
-            let plan = plan_of(alloc, rules, &epoch.sats, &body.root)?;
-            put_run(pen, plan, &body.root, maker)
+            let rows = rows_among(alloc, &epoch.sats)?;
+            let plan = plan_of(alloc, &rows, &wanted.rules, &body.root)?;
+            let search = Search {
+                rows: &rows,
+                root: &body.root,
+                wanted,
+            };
+            put_run(pen, plan, &search, maker)
         }
         None => Ok(None),
     }
@@ -201,22 +207,22 @@ fn put_epoch<P: Pen, M: Renewals>(
 /// Writes the head and the blocks, each one before it asks for the next.
 fn put_blocks<P: Pen, B: Blocks>(
     alloc: Global,
-    rules: &Rules,
+    wanted: &Wanted,
     blocks: &mut B,
     pen: &mut P,
 ) -> Result<(), WriteFault>
-    requires rules { (B.standing blocks.old).rules ≡ rules.now }
+    requires rules { (B.standing blocks.old).rules ≡ wanted.now.rules }
     requires first { (B.standing blocks.old).before ≡ None }
     requires ready { B.ready blocks.old }
-    ensures written { WroteLog (source_of B.gives B.maker) rules.now blocks.old blocks.new
-        (B.standing blocks.old).most
+    ensures written { WroteLog (source_of B.gives B.maker wanted.now.directions)
+        wanted.now.rules blocks.old blocks.new (B.standing blocks.old).most
         (P.seen pen.old) result (P.seen pen.new) }
     ensures trust { Trusts (P.trust pen.old) result (P.trust pen.new) }
 {
-    put_head(pen, rules, blocks.active())?;
+    put_head(pen, wanted, blocks.active())?;
     let mut kept = None;
     while let Some(epoch) = blocks.next(alloc, kept)? {
-        kept = put_epoch(alloc, pen, rules, &epoch, &*blocks)?;
+        kept = put_epoch(alloc, pen, wanted, &epoch, &*blocks)?;
     }
     Ok(())
 }
@@ -224,20 +230,20 @@ fn put_blocks<P: Pen, B: Blocks>(
 /// Writes the log of a source, and sends on all lines that were made where no device failed.
 pub(crate) fn put_whole<P: Pen, B: Blocks>(
     alloc: Global,
-    rules: &Rules,
+    wanted: &Wanted,
     blocks: &mut B,
     pen: &mut P,
 ) -> Result<(), WriteFault>
-    requires rules { (B.standing blocks.old).rules ≡ rules.now }
+    requires rules { (B.standing blocks.old).rules ≡ wanted.now.rules }
     requires first { (B.standing blocks.old).before ≡ None }
     requires ready { B.ready blocks.old }
     requires room { (P.seen pen.old).left ≤ longest_file }
-    ensures finished { Finished (source_of B.gives B.maker) rules.now blocks.old blocks.new
-        (B.standing blocks.old).most
+    ensures finished { Finished (source_of B.gives B.maker wanted.now.directions)
+        wanted.now.rules blocks.old blocks.new (B.standing blocks.old).most
         (P.seen pen.old) result (P.seen pen.new) }
     ensures trust { Trusts (P.trust pen.old) result (P.trust pen.new) }
 {
-    match put_blocks(alloc, rules, blocks, pen) {
+    match put_blocks(alloc, wanted, blocks, pen) {
         Ok(()) => pen.flush(),
         Err(fault) => {
             if fault.is_of_device() {

@@ -2,13 +2,14 @@
 //! renewed among them.
 
 ghost use Rattle.std.specs.Prelude.{◌≡◌, ◌≢◌, ℕ, ◌+◌, ◌<◌, ◌≤◌, ◌↔◌, ◌∷◌, [], List, length, map};
-ghost use Rattle.std.specs.Prelude.{take, Ok, Err, Result, OnOk, IfErr};
+ghost use Rattle.std.specs.Prelude.{take, Some, Ok, Err, Result, OnOk, IfErr};
 ghost use Rattle.std.specs.List.{AllByRecursion};
 ghost use Rattle.paving.specs.RenewalLines.{renewal_lines};
 ghost use Rattle.paving.specs.Taken.{step_bytes};
 ghost use Rattle.grid_model.specs.Boxes.{grid_box};
 ghost use Rattle.subpaving.specs.LiveValues.{box_option};
 ghost use Rattle.sat_model.specs.KeptHulls.{hull_after};
+ghost use Rattle.log_writer.specs.InUse.{rows_option};
 ghost use Rattle.log_writer.specs.Pieces.{Piece, alone, row_pieces};
 ghost use Rattle.log_writer.specs.Steps.{step_piece, BrokeAfter};
 ghost use Rattle.log_writer.specs.Writing.{Went, Ended, Written, Trusts, done, failed};
@@ -17,6 +18,7 @@ ghost use Rattle.log_lines.specs.Text.{row_line};
 ghost use Rattle.sat_model.specs.Events.{rows_over};
 
 use crate::fault::WriteFault;
+use crate::in_use::NewRows;
 use crate::kept::hull_with_step;
 use crate::pen::Pen;
 use epoch_report::step_text;
@@ -62,7 +64,7 @@ fn put_rows<P: Pen>(pen: &mut P, rows: &[Row]) -> Result<(), WriteFault>
 }
 
 /// Writes rows that are renewed: the line of their box, and one for each.
-fn put_renewal<P: Pen>(pen: &mut P, part: &Box3, rows: &[Row]) -> Result<(), WriteFault>
+pub(crate) fn put_renewal<P: Pen>(pen: &mut P, part: &Box3, rows: &[Row]) -> Result<(), WriteFault>
     ensures went { OnOk result (AllByRecursion RowFits rows.now
         → Went (P.seen pen.old) (row_pieces (rows_over (grid_box part.now) rows.now))
         (P.seen pen.new)) }
@@ -87,6 +89,8 @@ pub(crate) struct Track<'a, P: Pen> {
     pub last: WriteFault,
     /// The hull of the boxes that the steps kept.
     pub kept: Option<Box3>,
+    /// The rows that were renewed last.
+    pub renewed: Option<NewRows>,
 }
 
 impl<P: Pen> Steps for Track<'_, P> {
@@ -95,7 +99,8 @@ impl<P: Pen> Steps for Track<'_, P> {
         × (new.pen.ghost_name ≡ old.pen.ghost_name)
         × Trusts (P.trust old.pen.now) done (P.trust new.pen.now)
         × (box_option new.kept
-        ≡ hull_after (box_option old.kept) (record { step = step; part = part })) };
+        ≡ hull_after (box_option old.kept) (record { step = step; part = part }))
+        × (rows_option new.renewed ≡ rows_option old.renewed) };
 
     ghost broke = { λ old step part new.
         Ended (P.seen old.pen.now) (step_piece step part ∷ []) new.last (P.seen new.pen.now)
@@ -107,7 +112,8 @@ impl<P: Pen> Steps for Track<'_, P> {
         → Went (P.seen old.pen.now) (row_pieces new) (P.seen last.pen.now))
         × (last.pen.ghost_name ≡ old.pen.ghost_name)
         × Trusts (P.trust old.pen.now) done (P.trust last.pen.now)
-        × (box_option last.kept ≡ box_option old.kept) };
+        × (box_option last.kept ≡ box_option old.kept)
+        × (length new.rows ≤ 64 → rows_option last.renewed ≡ Some new) };
 
     ghost broke_rows = { λ old new lines last.
         (AllByRecursion RowFits new.rows
@@ -136,7 +142,10 @@ impl<P: Pen> Steps for Track<'_, P> {
 
     fn renew(&mut self, part: &Box3, rows: &[Row]) -> Result<(), StepFault> {
         match put_renewal(self.pen, part, rows) {
-            Ok(()) => Ok(()),
+            Ok(()) => {
+                self.renewed = Some(NewRows::copied(part, rows));
+                Ok(())
+            }
             Err(fault) => {
                 self.last = fault;
                 Err(fault.in_paving())
