@@ -49,7 +49,7 @@ run_on rules g given shown can is begun =
 -- its pieces begin those of the whole one
 record GoesOnTo (rules : Rules) (g b : Block) : Type 0 where
   block : Block
-  paves : Paves idle rules g block
+  paves : Paves None idle rules g block
   later : List Piece
   pieces : begun_pieces b ++ later ≡ block_pieces block
 
@@ -72,7 +72,7 @@ hand_on : (rules : Rules) (g b : Block) (o q : Option Body) → CanPave rules g 
     → GoesOnTo rules g b
 hand_on rules g b None None can is own begins e = record {
   block = g;
-  paves = extends_self (HasRun idle rules) g (λ body some. absurd (no_body g.body body is some));
+  paves = extends_self (HasRun None idle rules) g (λ body some. absurd (no_body g.body body is some));
   later = [];
   pieces = append-nil (begun_pieces b) ∙ (λ i. opening_is rules g b begins i ++ run_pieces (own i))
       ∙ sym (append-nil (opening_pieces g ++ run_pieces None))
@@ -84,7 +84,7 @@ hand_on rules g b (Some given) (Some body) can is own begins (root, r) =
     let same : test_in rules b ≡ test_in rules g = ap (λ (s : List SatEntry). test_of rules (rows_of s)) begins.sats in
     let begun : TurnsBegun idle (test_in rules g) rules given.root r.shown = rw (root, same) at r.begun in
     let (more, run) = run_on rules g given r.shown can is begun in
-    let done : Body = body_of given.root (r.shown ++ map OfStep more) run.last.splits in
+    let done : Body = body_of given.root (events_of (r.shown ++ map OfStep more)) run.last.splits [] in
     let first : Piece = alone (line.Root (corners_of given.root)) in
     let opened : opening_pieces g ≡ opening_pieces (with_body g (Some done)) = sym (opening_same g (Some done) (sym (ap is_none is))) in
     let begun_events : List Piece = event_pieces (first_boxes given.root) (events_of r.shown) in
@@ -92,7 +92,7 @@ hand_on rules g b (Some given) (Some body) can is own begins (root, r) =
     = ap run_pieces own ∙ (λ i. alone (line.Root (corners_of (root i))) ∷ event_pieces (first_boxes (root i)) (r.events i)) in
     record {
       block = with_body g (Some done);
-      paves = extends_body (HasRun idle rules) g given done is refl (record { shown = r.shown ++ map OfStep more; run = run; events = refl; done = refl; bounds = refl });
+      paves = extends_body (HasRun None idle rules) g given done is refl (record { shown = r.shown ++ map OfStep more; run = run; last = None; renews = refl; events = sym (append-nil (events_of (r.shown ++ map OfStep more))); done = refl; bounds = refl });
       later = shown_pieces (map OfStep more) ++ done_pieces (Some done);
       pieces = ap (λ (ps : List Piece). ps ++ (shown_pieces (map OfStep more) ++ done_pieces (Some done)))
           (λ i. opening_is rules g b begins i ++ own_run i)
@@ -102,7 +102,7 @@ hand_on rules g b (Some given) (Some body) can is own begins (root, r) =
           ∙ (λ i. opened i ++ (first ∷ pieces_then rules (test_in rules g) given.root r.shown (map OfStep more) begun run i)));
     }
 
-some_block : (rules : Rules) (g : Block) → CanPave rules g → (b : Block) × Paves idle rules g b
+some_block : (rules : Rules) (g : Block) → CanPave rules g → (b : Block) × Paves None idle rules g b
 some_block rules g can =
     let begins : Begins idle rules g g = begins_self idle rules g can.fits in
     let on = hand_on rules g g g.body g.body can refl refl begins begins.body in
@@ -180,7 +180,7 @@ broke_on limit pieces later fault log report b = record {
 }
 
 abbrev log_of : Rules → List Block → LogValue
-log_of rules blocks = record { version = version_of rules false; rules = rules; blocks = blocks }
+log_of rules blocks = record { version = version_of rules false false; rules = rules; blocks = blocks }
 
 begun_on : (rows : LogValue) (fault : WriteFault) (limit : ℕ) (bytes said : List ℕ)
     → CanAllPave rows.rules rows.blocks
@@ -188,7 +188,7 @@ begun_on : (rows : LogValue) (fault : WriteFault) (limit : ℕ) (bytes said : Li
     → IsBegunOf fault rows limit bytes said
 begun_on rows fault limit bytes said can b =
     let on = came_on rows.rules rows.blocks b.blocks b.behind b.hand None can b.came b.in_hand in
-    let head : List Piece = head_pieces (version_of rows.rules false) rows.rules in
+    let head : List Piece = head_pieces (version_of rows.rules false false) rows.rules in
     let front : List Piece = flat_map block_pieces b.blocks in
     let held : List Piece = flat_map begun_pieces (option_to_list b.hand) in
     let pieces : ((head ++ front) ++ held) ++ on.later ≡ log_pieces (log_of rows.rules (b.blocks ++ on.more)) =

@@ -5,6 +5,10 @@ pub mod RunSizes
 pub mod LineSizes
 pub mod WritingLemmas
 pub mod ReportLemmas
+pub mod KeptSizes
+pub mod ClosingLemmas
+pub mod AlongLemmas
+pub mod BoundingLemmas
 pub mod TextLemmas
 pub mod LinesPut
 pub mod RunLemmas

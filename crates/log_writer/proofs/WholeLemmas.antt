@@ -13,7 +13,7 @@ use Rattle.paving.specs.Renewing.{Maker}
 use Rattle.log_lines.specs.declared.line.Form.TheVariants as form
 use Rattle.log_lines.specs.declared.line.Kind.TheVariants as kind
 use Rattle.log_lines.specs.declared.line.LogForm.{LogForm}
-use Rattle.log_lines.specs.Order.{has_pairs, may_renew, log_form}
+use Rattle.log_lines.specs.Order.{has_pairs, may_renew, may_bound, log_form}
 use Rattle.paving_log.specs.RowsText.{OwnPasses}
 use Rattle.log_lines.specs.Text.{block_lines, log_lines, BlockFits, LogFits}
 use Rattle.paving_log.proofs.LogLemmas.{log_text_from}
@@ -24,16 +24,16 @@ use Rattle.log_writer.specs.declared.fault.WriteFault.TheVariants as why
 use Rattle.log_writer.specs.Breaks.{IsLonger, Leaves}
 use Rattle.subpaving.specs.LiveValues.{box_option}
 use Rattle.log_writer.specs.Kept.{hull_of_last}
-use Rattle.log_writer.specs.Pieces.{Piece, log_bytes, report_bytes, begun_pieces, block_pieces, head_pieces, version_of, log_pieces, pieces_with}
+use Rattle.log_writer.specs.Pieces.{Piece, log_bytes, report_bytes, begun_pieces, block_pieces, head_pieces, log_pieces, pieces_with}
 use Rattle.log_writer.specs.Pavings.{Paves}
 use Rattle.log_writer.specs.Sizes.{most_bytes, HasRoom}
-use Rattle.log_writer.specs.Sources.{Source, Standing, Follows, Came, IsInHand}
+use Rattle.log_writer.specs.Sources.{Source, Standing, Follows, is_bounded, version_from, Came, IsInHand}
 use Rattle.log_writer.specs.Steps.{of_device}
 use Rattle.log_writer.specs.Writing.{Sent, Counts, Seen, Put, Lost, Went, Ended, Flushed}
 use Rattle.log_writer.specs.Wrote.{IsSmall, BlockWent, LastBroke, BlockBroke, WroteBlock, Gave, LogWent, LogEnded, Finishes, Finished}
 use Rattle.log_writer.proofs.BlockLemmas.{CanPave, SuitsBlock}
 use Rattle.log_writer.proofs.LogLemmas.{can_pave, block_passes, block_fits, block_small, numbered, same_pieces, same_lines, came_numbered, fits_numbered, passes_numbered, are_numbered, came_more, last_more, last_numbered, all_more, index_behind, index_more, pass_more}
-use Rattle.log_writer.proofs.RoomLemmas.{version_le, room_of}
+use Rattle.log_writer.proofs.RoomLemmas.{small_more, version_le, room_of}
 use Rattle.log_writer.proofs.TextLemmas.{pieces_text, pieces_report}
 use Rattle.log_writer.proofs.WritingLemmas.{log_bytes-append, went_twice, ended_behind, ended_before, stopped}
 
@@ -49,18 +49,25 @@ pieces_more version rules blocks b =
     ∙ ap (λ (ps : List Piece). head_pieces version rules ++ ps)
     (ap (λ (ps : List Piece). flat_map block_pieces blocks ++ ps) (sym (append-nil (block_pieces b))) ∙ sym (flat_map-append block_pieces blocks (b ∷ [])))
 
--- the version tells of pairs, and whether rows may be renewed
-tells_pairs : (pairs renews : Bool)
-    → pairs ≡ has_pairs (if pairs then 3 else if renews then 2 else 1)
-tells_pairs true renews = refl
-tells_pairs false true = refl
-tells_pairs false false = refl
+-- the version tells of pairs, whether rows may be renewed, and whether there may be bounds
+tells_pairs : (bounded pairs renews : Bool) → (bounded ≡ true → pairs ≡ true)
+    → pairs ≡ has_pairs (if bounded then 4 else if pairs then 3 else if renews then 2 else 1)
+tells_pairs true pairs renews paired = paired refl
+tells_pairs false true renews paired = refl
+tells_pairs false false true paired = refl
+tells_pairs false false false paired = refl
 
-tells_renewed : (pairs renews : Bool) → renews ≡ true
-    → may_renew (if pairs then 3 else if renews then 2 else 1) ≡ true
-tells_renewed true renews is = refl
-tells_renewed false true is = refl
-tells_renewed false false is = absurd cc
+tells_renewed : (bounded pairs renews : Bool) → renews ≡ true
+    → may_renew (if bounded then 4 else if pairs then 3 else if renews then 2 else 1) ≡ true
+tells_renewed true pairs renews is = refl
+tells_renewed false true renews is = refl
+tells_renewed false false true is = refl
+tells_renewed false false false is = absurd cc
+
+tells_bounds : (bounded pairs renews : Bool) → bounded ≡ true
+    → may_bound (if bounded then 4 else if pairs then 3 else if renews then 2 else 1) ≡ true
+tells_bounds true pairs renews is = refl
+tells_bounds false pairs renews is = absurd cc
 
 longer_all : (limit : ℕ) (text more : List Piece) → IsLonger limit text more
     → limit < length (log_bytes (text ++ more))
@@ -71,7 +78,7 @@ longer_all limit text (next ∷ more) longer =
 module _ {B : Type 0} (source : Source B) (rules : Rules) (first : B) where
   -- that of the log of the source
   abbrev pub its_version : ℕ
-  its_version = version_of rules (source.maker first).active
+  its_version = version_from source rules first
 
   none_gave : Gave source rules its_version first [] first
   none_gave = record { came = refl; fit = tt; pass = tt; small = tt }
@@ -133,22 +140,23 @@ module _ {B : Type 0} (source : Source B) (rules : Rules) (first : B) where
       gave_more : (b : Block) → source.gives behind hull (Some g) next
           → SuitsBlock (source.maker next) g
           → (source.maker next).active ≡ (source.maker behind).active
-          → Paves (source.maker next) rules g b
+          → Paves source.directions (source.maker next) rules g b
           → Gave source rules its_version first (u.blocks ++ b ∷ []) next
       gave_more b gave suits same paves =
           let maker : Maker = source.maker next in
-          let renews = λ (on : maker.active ≡ true). tells_renewed rules.pairs (source.maker first).active (sym u.active ∙ sym same ∙ on) in
+          let renews = λ (on : maker.active ≡ true). tells_renewed (is_bounded source) rules.pairs (source.maker first).active (sym u.active ∙ sym same ∙ on) in
+          let bounds = tells_bounds (is_bounded source) rules.pairs (source.maker first).active in
           record {
             came = came_more source rules first behind next None u.blocks g b u.gave.came (gives_it gave) paves;
-            fit = all_more (BlockFits (form.Log (log_form its_version))) u.blocks b u.gave.fit (block_fits maker rules (index_behind None u.blocks) g b f.fits passes suits paves (log_form its_version) renews);
-            pass = pass_more rules None u.blocks b u.gave.pass (block_passes maker rules (index_behind None u.blocks) g b f.fits passes suits paves);
-            small = all_more (IsSmall rules) u.blocks b u.gave.small (block_small maker rules (index_behind None u.blocks) g b f.fits passes suits paves);
+            fit = all_more (BlockFits (form.Log (log_form its_version))) u.blocks b u.gave.fit (block_fits source.directions maker rules (index_behind None u.blocks) g b f.fits passes suits paves (log_form its_version) renews bounds);
+            pass = pass_more rules None u.blocks b u.gave.pass (block_passes source.directions maker rules (index_behind None u.blocks) g b f.fits passes suits paves);
+            small = all_more (IsSmall (is_bounded source) rules) u.blocks b u.gave.small (block_small source.directions maker rules (index_behind None u.blocks) g b f.fits passes suits paves);
           }
 
       pub underway_more : (later : Seen) (kept : Option Box3)
           → source.gives behind hull (Some g) next → SuitsBlock (source.maker next) g
           → (source.maker next).active ≡ (source.maker behind).active
-          → BlockWent (source.maker next) rules g now kept later
+          → BlockWent source.directions (source.maker next) rules g now kept later
           → IsUnderway a next (box_option kept) later
       underway_more later kept gave suits same w = record {
         blocks = u.blocks ++ w.block ∷ [];
@@ -166,7 +174,7 @@ module _ {B : Type 0} (source : Source B) (rules : Rules) (first : B) where
       pub last_broke : (later : Seen) (fault : WriteFault) → source.gives behind hull (Some g) next
           → SuitsBlock (source.maker next) g
           → (source.maker next).active ≡ (source.maker behind).active
-          → LastBroke (source.maker next) rules g now fault later
+          → LastBroke source.directions (source.maker next) rules g now fault later
           → LogEnded source rules first (standing first).most a fault later
       last_broke later fault gave suits same w = record {
         blocks = u.blocks ++ w.block ∷ [];
@@ -190,7 +198,7 @@ module _ {B : Type 0} (source : Source B) (rules : Rules) (first : B) where
         gave = u.gave;
         hand = Some w.block;
         in_hand = (g, next, gives_it gave, w.begins);
-        small = (w.small, tt);
+        small = (small_more (is_bounded source) rules w.block w.small, tt);
         at_most = omega (arith, u.left, f.most, length-append u.blocks (w.block ∷ []));
         ended = subst (λ (ps : List Piece). Ended a ps fault later) (ap (λ (ps : List Piece). log_pieces (log_of its_version rules u.blocks) ++ ps) (sym (append-nil (begun_pieces w.block))))
             (ended_behind a now later (log_pieces (log_of its_version rules u.blocks)) (begun_pieces w.block) fault u.went w.ended);
@@ -199,7 +207,7 @@ module _ {B : Type 0} (source : Source B) (rules : Rules) (first : B) where
       pub block_ended : (later : Seen) (fault : WriteFault) → source.gives behind hull (Some g) next
           → SuitsBlock (source.maker next) g
           → (source.maker next).active ≡ (source.maker behind).active
-          → WroteBlock (source.maker next) rules g now (Err fault) later
+          → WroteBlock source.directions (source.maker next) rules g now (Err fault) later
           → LogEnded source rules first (standing first).most a fault later
       block_ended later fault gave suits same (inl w) = last_broke later fault gave suits same w
       block_ended later fault gave suits same (inr w) = block_broke later fault gave w
@@ -231,7 +239,7 @@ module _ {B : Type 0} (source : Source B) (rules : Rules) (first last : B) (most
     in_hand : IsInHand source rules behind (hull_of_last None blocks) hand
 
   abbrev pieces_in : HasBlocks → List Piece
-  pieces_in h = pieces_with (log_of (version_of rules (source.maker first).active) rules h.blocks) h.hand
+  pieces_in h = pieces_with (log_of (version_from source rules first) rules h.blocks) h.hand
 
   abbrev of_ended : {a c : Seen} {fault : WriteFault} → LogEnded source rules first most a fault c → HasBlocks
   of_ended w = record { blocks = w.blocks; behind = w.behind; came = w.gave.came; hand = w.hand; in_hand = w.in_hand }
@@ -269,7 +277,7 @@ module _ {B : Type 0} (source : Source B) (rules : Rules) (first last : B) (most
       → Sent a.at (log_bytes text) (report_bytes text) c.at
       → Leaves a.left text more fault (log_bytes text) (report_bytes text)
       → Counts {T = T} a.at (Err fault) c.at
-      → HasRoom {T = T} a.left (most_bytes most rules.bisections) (Err fault)
+      → HasRoom {T = T} a.left (most_bytes (is_bounded source) most rules.bisections) (Err fault)
       → Finishes {T = T} source rules first last most a (Err fault) c
   stop_finishes h a c fault text more all put sent leaves counts room = record {
     bytes = log_bytes text;
@@ -285,10 +293,10 @@ module _ {B : Type 0} (source : Source B) (rules : Rules) (first last : B) (most
   -- ---- a log that is full
 
   full_room : (a c : Seen) → Put a [] a → LogEnded source rules first most a why.Full c
-      → a.left < most_bytes most rules.bisections
+      → a.left < most_bytes (is_bounded source) most rules.bisections
   full_room a c start w =
       let s = w.ended a [] start in
-      room_of rules (source.maker first).active w.blocks w.hand a.left most w.gave.small w.small w.at_most
+      room_of rules (source.maker first).active (is_bounded source) w.blocks w.hand a.left most w.gave.small w.small w.at_most
       (omega (arith, longer_all a.left s.text s.more s.stops.1, ap (λ (ps : List Piece). length (log_bytes ps)) s.all))
 
   -- ---- by the fault
@@ -334,9 +342,9 @@ module _ {B : Type 0} (source : Source B) (rules : Rules) (first last : B) (most
 
   -- ---- a whole log
 
-  module _ (a b c : Seen) (w : LogWent source rules first last a b) where
+  module _ (paired : is_bounded source ≡ true → rules.pairs ≡ true) (a b c : Seen) (w : LogWent source rules first last a b) where
     pieces : List Piece
-    pieces = log_pieces (log_of (version_of rules (source.maker first).active) rules w.blocks)
+    pieces = log_pieces (log_of (version_from source rules first) rules w.blocks)
 
     -- the last bytes were lost
     whole_lost : {U : Type 0} (S : Type 0) (fault : WriteFault) → Flushed {T = S} b (Err fault) c
@@ -348,23 +356,23 @@ module _ {B : Type 0} (source : Source B) (rules : Rules) (first last : B) (most
 
     -- the log, each block with the number of its line
     log : LogValue
-    log = log_of (version_of rules (source.maker first).active) rules (numbered (log_form (version_of rules (source.maker first).active)) 3 w.blocks)
+    log = log_of (version_from source rules first) rules (numbered (log_form (version_from source rules first)) 3 w.blocks)
 
     same : pieces ≡ log_pieces log
     unfolding pieces log
-    same = ap (λ (ps : List Piece). head_pieces (version_of rules (source.maker first).active) rules ++ ps) (sym (same_pieces (log_form (version_of rules (source.maker first).active)) 3 w.blocks))
+    same = ap (λ (ps : List Piece). head_pieces (version_from source rules first) rules ++ ps) (sym (same_pieces (log_form (version_from source rules first)) 3 w.blocks))
 
     judged : Judged log
     unfolding log
-    judged = passes_numbered (log_form (version_of rules (source.maker first).active)) rules None 3 w.blocks w.gave.pass
+    judged = passes_numbered (log_form (version_from source rules first)) rules None 3 w.blocks w.gave.pass
 
     log_fits : LogFits kind.Log log
     unfolding log
     log_fits = record {
-      version = version_le rules.pairs (source.maker first).active;
+      version = version_le (is_bounded source) rules.pairs (source.maker first).active;
       has_version = refl;
-      pairs = tells_pairs rules.pairs (source.maker first).active;
-      blocks = fits_numbered (log_form (version_of rules (source.maker first).active)) 3 w.blocks w.gave.fit;
+      pairs = tells_pairs (is_bounded source) rules.pairs (source.maker first).active paired;
+      blocks = fits_numbered (log_form (version_from source rules first)) 3 w.blocks w.gave.fit;
     }
 
     -- all of it went out
@@ -373,7 +381,7 @@ module _ {B : Type 0} (source : Source B) (rules : Rules) (first last : B) (most
         → Finished {T = T} source rules first last most a (Ok done) c
     unfolding pieces log
     finish_done done all_out room flushed = λ start.
-        let on : LogForm = log_form (version_of rules (source.maker first).active) in
+        let on : LogForm = log_form (version_from source rules first) in
         let (put, sent) = flushed a pieces (w.went a [] start) in
         let text = pieces_text log in
         let count : 3 + length (flat_map (block_lines (form.Log on)) w.blocks) ≤ 4000000001 =
@@ -404,10 +412,10 @@ module _ {B : Type 0} (source : Source B) (rules : Rules) (first last : B) (most
   -- ---- by how it ended
 
   pub finish_ok : {T : Type 0} (a b c : Seen) (done : T) (r : Result T WriteFault)
-      → a.left ≤ longest_file → LogWent source rules first last a b → Flushed b r c
+      → (is_bounded source ≡ true → rules.pairs ≡ true) → a.left ≤ longest_file → LogWent source rules first last a b → Flushed b r c
       → Finished source rules first last most a r c
-  finish_ok {T} a b c done (Ok all_out) room w flushed = finish_done a b c w all_out all_out room flushed
-  finish_ok {T} a b c done (Err fault) room w flushed = whole_lost a b c w T fault flushed
+  finish_ok {T} a b c done (Ok all_out) paired room w flushed = finish_done paired a b c w all_out all_out room flushed
+  finish_ok {T} a b c done (Err fault) paired room w flushed = whole_lost paired a b c w T fault flushed
 
   pub finish_device : {T : Type 0} (a c : Seen) (fault : WriteFault) → of_device fault ≡ true
       → LogEnded source rules first most a fault c

@@ -1,5 +1,5 @@
 -- The bounds of an epoch: at most one in each of the directions that are asked for.
-use Rattle.std.specs.Prelude.{◌≡◌, ℕ, ◌⊎◌, List, [], ◌∷◌, Option, None, Some}
+use Rattle.std.specs.Prelude.{◌≡◌, ℕ, ◌≤◌, ◌⊎◌, List, [], ◌∷◌, length, Option, None, Some}
 use Rattle.std.specs.List.{AllByRecursion}
 use Rattle.bound_directions.specs.Directions.{IsDirectionsOf}
 use Rattle.bound_directions.specs.declared.direction.Direction.{Direction}
@@ -9,6 +9,7 @@ use Rattle.log_lines.specs.Text.{BoundFits}
 use Rattle.sat_model.specs.Bounds.{BoundValue}
 use Rattle.sat_model.specs.Events.{Event, RowsOver}
 use Rattle.sat_model.specs.ShownBounds.{AreBoundsShown}
+use Rattle.log_writer.specs.Sizes.{most_bounds}
 
 -- they are along some of the directions, in the same order, at most one along each
 abbrev pub AreAlong : List Direction → List BoundValue → Type 0
@@ -24,6 +25,7 @@ pub record AreBoundsAlong (directions : Directions) (q : ℕ) (first : RowsOver)
     (events : List Event) (bounds : List BoundValue) : Type 0 where
   pub list : List Direction
   pub are_they : IsDirectionsOf directions list
+  pub few : length list ≤ most_bounds
   pub along : AreAlong list bounds
   pub fit : AllByRecursion BoundFits bounds
   pub shown : AreBoundsShown q first events bounds

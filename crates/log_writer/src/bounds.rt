@@ -39,6 +39,7 @@ fn put_bound<P: Pen>(pen: &mut P, bound: &Bound) -> Result<(), WriteFault>
     requires some { 1 ≤ length bound.now.sums.items }
     ensures written { Written (P.seen pen.old) (map alone (bound_lines (bound_value bound.now)))
         result (P.seen pen.new) }
+    ensures few { length bound.now.sums.items ≤ 64 }
     ensures trust { Trusts (P.trust pen.old) result (P.trust pen.new) }
 {
     let first = bound_line(&BoundHead {

@@ -1,0 +1,165 @@
+-- What stands behind the events of a whole run: rows that are renewed once more, and bounds.
+use Rattle.std.proofs.Common.{◌≡◌, ℕ, suc, ◌+◌, ◌*◌, ◌≤◌, arith, List, [], ◌∷◌, ◌++◌, length, map, append-nil, append_assoc, inl, inr, Option, None, Some, refl, sym, ap, subst, ◌∙◌, length-append}
+use Rattle.std.specs.Prelude.{true, if◌then◌else◌, Bool, is_some}
+use Rattle.std.specs.List.{flat_map, AllByRecursion}
+use Rattle.bound_directions.specs.declared.direction.Direction.{Direction}
+use Rattle.bound_directions.specs.declared.directions.Directions.{Directions}
+use Rattle.sat_model.specs.declared.rules.Rules.{Rules}
+use Rattle.sat_model.specs.declared.rows.Row.{Row}
+use Rattle.grid_model.specs.Boxes.{GridBox, IsInside}
+use Rattle.grid_model.proofs.BoxLemmas.{lies_refl}
+use Rattle.sat_model.specs.Bounds.{BoundValue}
+use Rattle.sat_model.specs.BoxTests.{BoxTest}
+use Rattle.sat_model.specs.Events.{Event, Made, Renewed, RowsOver, rows_over, steps_in, lines_of_all}
+use Rattle.sat_model.specs.Fold.{Subpaving, boxes_after, live_box, pieces, IsLive, NoneLive}
+use Rattle.sat_model.specs.HalfSpaces.{FormsShow, ShowHalfSpace}
+use Rattle.sat_model.specs.KeptHulls.{kept_hull}
+use Rattle.sat_model.specs.Pairs.{form_of}
+use Rattle.sat_model.specs.Renewals.{AnyLine, IsOfPlace, LinesPass}
+use Rattle.sat_model.specs.ShownBounds.{rows_behind, AreOver, AreBoundsShown}
+use Rattle.sat_model.specs.Stages.{Stage, after}
+use Rattle.sat_model.specs.Verdicts.{EventsPass}
+use Rattle.sat_model.proofs.EventLemmas.{steps_behind, lines_behind}
+use Rattle.paving.specs.Renewing.{Maker, GivesFrom}
+use Rattle.paving.proofs.TurnLemmas.{Suits}
+use Rattle.log_writer.specs.Bounding.{AreBoundsAlong, AreBoundsFor}
+use Rattle.log_writer.specs.Found.{AreFound}
+use Rattle.log_writer.specs.InUse.{used_last, AreShowing}
+use Rattle.log_writer.specs.LastRenewals.{RenewsLast, last_events}
+use Rattle.log_writer.specs.Pieces.{Piece, row_pieces, event_pieces}
+use Rattle.log_writer.specs.Wrote.{last_pieces}
+
+-- ---- the events with the last renewal
+
+steps_of_last : (last : Option RowsOver) → steps_in (last_events last) ≡ []
+steps_of_last None = refl
+steps_of_last (Some new) = refl
+
+-- the steps are the same
+pub last_steps : (events : List Event) (last : Option RowsOver)
+    → steps_in (events ++ last_events last) ≡ steps_in events
+last_steps events last =
+    steps_behind events (last_events last) ∙ ap (λ (steps : List _). steps_in events ++ steps) (steps_of_last last) ∙ append-nil (steps_in events)
+
+-- so is what is kept
+pub last_hull : (root : GridBox) (events : List Event) (last : Option RowsOver)
+    → kept_hull (pieces root (steps_in (events ++ last_events last))) ≡ kept_hull (pieces root (steps_in events))
+last_hull root events last = ap (λ (steps : List _). kept_hull (pieces root steps)) (last_steps events last)
+
+-- its rows are in use then
+pub last_rows : (first : RowsOver) (events : List Event) (last : Option RowsOver)
+    → rows_behind first (events ++ last_events last) ≡ used_last (rows_behind first events) last
+last_rows first [] None = refl
+last_rows first [] (Some new) = refl
+last_rows first (Made step ∷ events) last = last_rows first events last
+last_rows first (Renewed new ∷ events) last = last_rows new events last
+
+-- its lines come last
+pub last_apart : (boxes : Subpaving) (events : List Event) (last : Option RowsOver)
+    → event_pieces boxes (events ++ last_events last) ≡ event_pieces boxes events ++ last_pieces last
+last_apart boxes [] None = refl
+last_apart boxes [] (Some new) = append-nil (row_pieces new)
+last_apart boxes (Made step ∷ events) last = ap (λ (ps : List Piece). _ ∷ ps) (last_apart (boxes_after boxes step) events last)
+last_apart boxes (Renewed new ∷ events) last =
+    ap (λ (ps : List Piece). row_pieces new ++ ps) (last_apart boxes events last)
+    ∙ sym (append_assoc (row_pieces new) (event_pieces boxes events) (last_pieces last))
+
+-- ---- they pass
+
+lines_pass : (maker : Maker) (first : RowsOver) (j i : ℕ) (part : GridBox) (rows : List Row)
+    → ((k : ℕ) (c : GridBox) (row : Row) → maker.gives k c row → IsOfPlace first.rows k row)
+    → GivesFrom maker i part rows → LinesPass AnyLine first j i rows
+lines_pass maker first j i part [] suits gives = tt
+lines_pass maker first j i part (row ∷ rows) suits gives =
+    ((suits i part row gives.0, tt), lines_pass maker first j (suc i) part rows suits gives.1)
+
+none_is_live : (boxes : Subpaving) (id : ℕ) (live : GridBox) → NoneLive boxes → IsLive boxes id live → ⊥
+none_is_live boxes id live none is = no_box (live_box boxes id) live (none id) is
+where
+  no_box : (o : Option GridBox) (live : GridBox) → o ≡ None → o ≡ Some live → ⊥
+  no_box o live none is = cc
+
+module _ (maker : Maker) (first : RowsOver) (rules : Rules) (done : ℕ) (suits : Suits maker first.rows) where
+  -- what may be renewed last: in the root, and by the maker
+  pub record IsLast (new : RowsOver) : Type 0 where
+    pub active : maker.active ≡ true
+    pub in_root : IsInside new.part first.part
+    pub gives : GivesFrom maker 0 new.part new.rows
+
+  new_passes : (j : ℕ) (stage : Stage) (events : List Event) (new : RowsOver) → IsLast new
+      → EventsPass AnyLine first rules done j stage events
+      → EventsPass AnyLine first rules done j stage (events ++ Renewed new ∷ [])
+  new_passes j stage [] new is p = (
+    record {
+      holds = record { in_root = is.in_root; each_live = λ id live lives. absurd (none_is_live stage.boxes id live p.0 lives) };
+      lines = lines_pass maker first j 0 new.part new.rows (suits is.active) is.gives;
+    },
+    p,
+  )
+  new_passes j stage (Made step ∷ events) new is p = (p.0, new_passes j (after stage (Made step)) events new is p.1)
+  new_passes j stage (Renewed x ∷ events) new is p = (p.0, new_passes (suc j) (after stage (Renewed x)) events new is p.1)
+
+  pub last_passes : (j : ℕ) (stage : Stage) (events : List Event) (last : Option RowsOver)
+      → ((new : RowsOver) → last ≡ Some new → IsLast new)
+      → EventsPass AnyLine first rules done j stage events
+      → EventsPass AnyLine first rules done j stage (events ++ last_events last)
+  last_passes j stage events None is p = subst (λ (l : List Event). EventsPass AnyLine first rules done j stage l) (sym (append-nil events)) p
+  last_passes j stage events (Some new) is p = new_passes j stage events new (is new refl) p
+
+-- ---- the rows that bounds are shown by
+
+-- the rows over a hull, as they are chosen
+pub record AreRowsOver (hull : GridBox) (first : RowsOver) (events : List Event) (rows : List Row) : Type 0 where
+  pub over : RowsOver
+  pub are_over : AreOver hull first events over
+  pub rows_are : over.rows ≡ rows
+
+over_last : (hull : GridBox) (first : RowsOver) (events : List Event) (used : RowsOver) (rows : List Row)
+    → rows_behind first events ≡ used → IsInside hull used.part → rows ≡ used.rows
+    → AreRowsOver hull first events rows
+over_last hull first events used rows is inside same = record {
+  over = rows_behind first events;
+  are_over = inl (subst (λ (u : RowsOver). IsInside hull u.part) (sym is) inside, refl);
+  rows_are = ap (λ (u : RowsOver). u.rows) is ∙ sym same;
+}
+
+over_first : (hull : GridBox) (first : RowsOver) (events : List Event) (used : RowsOver) (rows : List Row)
+    → rows_behind first events ≡ used → (IsInside hull used.part → ⊥) → rows ≡ first.rows
+    → AreRowsOver hull first events rows
+over_first hull first events used rows is not same = record {
+  over = first;
+  are_over = inr (λ inside. not (subst (λ (u : RowsOver). IsInside hull u.part) is inside), refl);
+  rows_are = sym same;
+}
+
+pub rows_shown : (hull : GridBox) (first : RowsOver) (events : List Event) (last before : Option RowsOver) (rows : List Row)
+    → IsInside hull first.part → used_last first before ≡ rows_behind first events
+    → ((new : RowsOver) → last ≡ Some new → hull ≡ new.part)
+    → AreShowing hull last before first.rows rows
+    → AreRowsOver hull first (events ++ last_events last) rows
+rows_shown hull first events (Some new) before rows in_root used is same =
+    over_last hull first (events ++ Renewed new ∷ []) new rows (last_rows first events (Some new))
+    (subst (λ (part : GridBox). IsInside hull part) (is new refl) (lies_refl hull)) same
+rows_shown hull first events None (Some old) rows in_root used is (inl (inside, same)) =
+    over_last hull first (events ++ []) old rows (last_rows first events None ∙ sym used) inside same
+rows_shown hull first events None (Some old) rows in_root used is (inr (not, same)) =
+    over_first hull first (events ++ []) old rows (last_rows first events None ∙ sym used) not same
+rows_shown hull first events None None rows in_root used is same =
+    over_last hull first (events ++ []) first rows (last_rows first events None ∙ sym used) in_root same
+
+pub all_shown : (q : ℕ) (first : RowsOver) (events : List Event) (hull : GridBox) (rows : List Row) (bounds : List BoundValue)
+    → kept_hull (pieces first.part (steps_in events)) ≡ Some hull
+    → AreRowsOver hull first events rows
+    → AllByRecursion (λ (b : BoundValue). ShowHalfSpace rows hull q b.half b.sums) bounds
+    → AreBoundsShown q first events bounds
+all_shown q first events hull rows [] is over shown = tt
+all_shown q first events hull rows (b ∷ bounds) is over shown = (
+  record {
+    hull = hull;
+    is_hull = is;
+    over = over.over;
+    are_over = over.are_over;
+    shows = subst (λ (l : List Row). ShowHalfSpace l hull q b.half b.sums) (sym over.rows_are) shown.0;
+  },
+  all_shown q first events hull rows bounds is over shown.1,
+)
