@@ -9,11 +9,11 @@ ghost use Rattle.log_lines.specs.declared.line.Kind.TheVariants as kind;
 
 use crate::renewed::kept_text;
 use grid_model::{Box3, NoMemory};
-use log_writer::{Blocks, LogBlocks, WriteFault, write_log};
+use log_writer::{Blocks, LogBlocks, Wanted, WriteFault, write_log};
 use outer_io::{MemoryShelf, MemorySink, Shelf, Slot};
 use paving::Renewals;
 use paving_log::{Log, LogEpoch, read_rows};
-use sat_model::{Row, Rules};
+use sat_model::Row;
 use std::alloc::{AllocError, Global};
 use std::test::Fail;
 
@@ -80,12 +80,12 @@ struct Held {
 /// Writes the log of these blocks up to the limit.
 fn write<B: Blocks>(
     alloc: Global,
-    rules: &Rules,
+    wanted: &Wanted,
     blocks: &mut B,
     limit: u32,
     devices: &Devices,
 ) -> Result<Held, Fail>
-    requires rules { (B.standing blocks.old).rules ≡ rules.now }
+    requires rules { (B.standing blocks.old).rules ≡ wanted.now.rules }
     requires first { (B.standing blocks.old).before ≡ None }
     requires ready { B.ready blocks.old }
 {
@@ -95,15 +95,18 @@ fn write<B: Blocks>(
     let mut out = MemorySink::make(alloc, devices.out_room, vec![in alloc; devices.out_fails]?)?;
     shelf.create("b.log", Slot::Log)?;
     let limit = (limit as u64).min(4_000_000_000);
-    let result = write_log(alloc, &mut shelf, &mut out, limit, rules, blocks);
+    let result = write_log(alloc, &mut shelf, &mut out, limit, wanted, blocks);
     Ok(Held { result, shelf, out })
 }
 
 /// Writes the log of these rows.
 fn write_rows(alloc: Global, rows: &str, limit: u32, devices: &Devices) -> Result<Held, Fail> {
     let log = rows_in(alloc, rows)?;
-    let rules = log.rules;
-    write(alloc, &rules, &mut LogBlocks::of_log(log), limit, devices)
+    let wanted = Wanted {
+        rules: log.rules,
+        directions: None,
+    };
+    write(alloc, &wanted, &mut LogBlocks::of_log(log), limit, devices)
 }
 
 /// The bytes of the log.
@@ -347,12 +350,15 @@ fn finished_epochs_go_out_where_memory_ends(rt: HostRuntime) -> Result<(), Fail>
     ];
     for (left, devices, fault, log, report) in table {
         let rows = rows_in(alloc, &long_rows(alloc)?)?;
-        let rules = rows.rules;
+        let wanted = Wanted {
+            rules: rows.rules,
+            directions: None,
+        };
         let mut blocks = Ending {
             blocks: LogBlocks::of_log(rows),
             left,
         };
-        let held = write(alloc, &rules, &mut blocks, 100_000, &devices)?;
+        let held = write(alloc, &wanted, &mut blocks, 100_000, &devices)?;
         assert_eq!(rt; held.result, Err(fault));
         assert_eq!(rt;
             (log_bytes(&held).len(), held.out.bytes().len()),

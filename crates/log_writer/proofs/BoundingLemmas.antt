@@ -55,19 +55,19 @@ few_behind (Some d) maker q first events None bounds few renews are =
 few_behind (Some d) maker q first events (Some new) bounds few (active, is, half, same, gives) are =
     omega (arith, same, few, bound_count bounds are.fit, along_few are.list bounds are.along, are.few)
 
+no_rows : (o : Option RowsOver) (new : RowsOver) → o ≡ None → o ≡ Some new → ⊥
+no_rows o new none some = cc
+
+some_rows : (x y : RowsOver) → Some x ≡ Some y → x ≡ y
+some_rows x y e = cc
+
 -- the last renewal is the maker's, over the hull of what is kept
 pub last_is : (directions : Option Directions) (maker : Maker) (first : RowsOver) (events : List Event) (last : Option RowsOver)
     → RenewsLast directions maker first events last → (new : RowsOver) → last ≡ Some new
     → (maker.active ≡ true) × (kept_hull (pieces first.part (steps_in events)) ≡ Some new.part)
     × (length new.rows ≡ length first.rows) × GivesFrom maker 0 new.part new.rows
 last_is None maker first events last none new some = absurd (no_rows last new none some)
-where
-  no_rows : (o : Option RowsOver) (new : RowsOver) → o ≡ None → o ≡ Some new → ⊥
-  no_rows o new none some = cc
 last_is (Some d) maker first events None renews new some = absurd cc
 last_is (Some d) maker first events (Some last) (active, is, half, same, gives) new some =
     subst (λ (x : RowsOver). (maker.active ≡ true) × (kept_hull (pieces first.part (steps_in events)) ≡ Some x.part)
-        × (length x.rows ≡ length first.rows) × GivesFrom maker 0 x.part x.rows) (some_rows last new some) (active, is, same, gives)
-where
-  some_rows : (x y : RowsOver) → Some x ≡ Some y → x ≡ y
-  some_rows x y e = cc
+    × (length x.rows ≡ length first.rows) × GivesFrom maker 0 x.part x.rows) (some_rows last new some) (active, is, same, gives)

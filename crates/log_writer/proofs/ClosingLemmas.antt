@@ -11,7 +11,7 @@ use Rattle.grid_model.proofs.BoxLemmas.{lies_refl}
 use Rattle.sat_model.specs.Bounds.{BoundValue}
 use Rattle.sat_model.specs.BoxTests.{BoxTest}
 use Rattle.sat_model.specs.Events.{Event, Made, Renewed, RowsOver, rows_over, steps_in, lines_of_all}
-use Rattle.sat_model.specs.Fold.{Subpaving, boxes_after, live_box, pieces, IsLive, NoneLive}
+use Rattle.sat_model.specs.Fold.{Subpaving, boxes_after, taken_by, live_box, pieces, IsLive, NoneLive}
 use Rattle.sat_model.specs.HalfSpaces.{FormsShow, ShowHalfSpace}
 use Rattle.sat_model.specs.KeptHulls.{kept_hull}
 use Rattle.sat_model.specs.Pairs.{form_of}
@@ -20,13 +20,15 @@ use Rattle.sat_model.specs.ShownBounds.{rows_behind, AreOver, AreBoundsShown}
 use Rattle.sat_model.specs.Stages.{Stage, after}
 use Rattle.sat_model.specs.Verdicts.{EventsPass}
 use Rattle.sat_model.proofs.EventLemmas.{steps_behind, lines_behind}
+use Rattle.log_lines.specs.declared.line.LogLine.TheVariants as line
+use Rattle.epoch_report.specs.Reports.{piece_text}
 use Rattle.paving.specs.Renewing.{Maker, GivesFrom}
 use Rattle.paving.proofs.TurnLemmas.{Suits}
 use Rattle.log_writer.specs.Bounding.{AreBoundsAlong, AreBoundsFor}
 use Rattle.log_writer.specs.Found.{AreFound}
 use Rattle.log_writer.specs.InUse.{used_last, AreShowing}
 use Rattle.log_writer.specs.LastRenewals.{RenewsLast, last_events}
-use Rattle.log_writer.specs.Pieces.{Piece, row_pieces, event_pieces}
+use Rattle.log_writer.specs.Pieces.{Piece, with_report, row_pieces, event_pieces}
 use Rattle.log_writer.specs.Wrote.{last_pieces}
 
 -- ---- the events with the last renewal
@@ -59,7 +61,8 @@ pub last_apart : (boxes : Subpaving) (events : List Event) (last : Option RowsOv
     → event_pieces boxes (events ++ last_events last) ≡ event_pieces boxes events ++ last_pieces last
 last_apart boxes [] None = refl
 last_apart boxes [] (Some new) = append-nil (row_pieces new)
-last_apart boxes (Made step ∷ events) last = ap (λ (ps : List Piece). _ ∷ ps) (last_apart (boxes_after boxes step) events last)
+last_apart boxes (Made step ∷ events) last = 
+    ap (λ (ps : List Piece). with_report (line.Step step) (flat_map piece_text (taken_by boxes step)) ∷ ps) (last_apart (boxes_after boxes step) events last)
 last_apart boxes (Renewed new ∷ events) last =
     ap (λ (ps : List Piece). row_pieces new ++ ps) (last_apart boxes events last)
     ∙ sym (append_assoc (row_pieces new) (event_pieces boxes events) (last_pieces last))
@@ -75,9 +78,9 @@ lines_pass maker first j i part (row ∷ rows) suits gives =
 
 none_is_live : (boxes : Subpaving) (id : ℕ) (live : GridBox) → NoneLive boxes → IsLive boxes id live → ⊥
 none_is_live boxes id live none is = no_box (live_box boxes id) live (none id) is
-where
-  no_box : (o : Option GridBox) (live : GridBox) → o ≡ None → o ≡ Some live → ⊥
-  no_box o live none is = cc
+  where
+    no_box : (o : Option GridBox) (live : GridBox) → o ≡ None → o ≡ Some live → ⊥
+    no_box o live none is = cc
 
 module _ (maker : Maker) (first : RowsOver) (rules : Rules) (done : ℕ) (suits : Suits maker first.rows) where
   -- what may be renewed last: in the root, and by the maker

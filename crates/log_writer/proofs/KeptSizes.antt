@@ -81,9 +81,9 @@ cuts_kept test id root part (shown ∷ more) left (face, bound, may, is, later) 
   λ kept. absurd (no_cut face bound (sym (ap (λ (s : ShownStep). is_kept_step s.step) is) ∙ kept)),
   cuts_kept test id root (left_by_cut face bound part) more left later,
 )
-where
-  no_cut : (face : ℕ) (bound : ℤ) → is_kept_step (Cut id face bound) ≡ true → ⊥
-  no_cut face bound e = cc
+  where
+    no_cut : (face : ℕ) (bound : ℤ) → is_kept_step (Cut id face bound) ≡ true → ⊥
+    no_cut face bound e = cc
 
 box_kept : (test : BoxTest) (rules : Rules) (splits : ℕ) (root : GridBox) (next : WaitingBox) (own : List ShownStep)
     → AreStepsOf test rules splits next own → next.id ≤ 400000
@@ -131,11 +131,11 @@ joined_in root (Some hull) part all in_root here =
 after_in : (root : GridBox) (hull : Option GridBox) (s : ShownStep) → IsInside root grid
     → IsHullIn root hull → IsKeptIn root s → IsHullIn root (hull_after hull s)
 after_in root hull s all in_root here = by_kind (is_kept_step s.step) here
-where
-  by_kind : (kept : Bool) → (kept ≡ true → IsIn root s.part)
-      → IsHullIn root (cond kept (hull_with hull s.part) hull)
-  by_kind true kept = joined_in root hull s.part all in_root (kept refl)
-  by_kind false kept = in_root
+  where
+    by_kind : (kept : Bool) → (kept ≡ true → IsIn root s.part)
+        → IsHullIn root (cond kept (hull_with hull s.part) hull)
+    by_kind true kept = joined_in root hull s.part all in_root (kept refl)
+    by_kind false kept = in_root
 
 behind_in : (root : GridBox) (hull : Option GridBox) (steps : List ShownStep) → IsInside root grid
     → IsHullIn root hull → AllByRecursion (IsKeptIn root) steps

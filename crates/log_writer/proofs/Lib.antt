@@ -9,6 +9,7 @@ pub mod KeptSizes
 pub mod ClosingLemmas
 pub mod AlongLemmas
 pub mod BoundingLemmas
+pub mod EndLemmas
 pub mod TextLemmas
 pub mod LinesPut
 pub mod RunLemmas

@@ -1,7 +1,11 @@
 -- Lines that are put one after another, up to the one that breaks.
 use Rattle.std.proofs.Common.{◌≡◌, ℕ, zero, suc, ◌+◌, ◌<◌, ◌≤◌, List, [], ◌∷◌, ◌++◌, length, map, take, drop, get_or, refl, sym, ap, subst, ◌∙◌, arith, Some, Err, length-append, take-append-drop}
-use Rattle.std.specs.Prelude.{◌↔◌}
+use Rattle.std.specs.Prelude.{◌↔◌, OnOk, IfErr, Result, Ok}
 use Rattle.std.proofs.lemmas.List.{map-append, length-map, take_all}
+use Rattle.std.specs.List.{AllByRecursion}
+use Rattle.log_lines.specs.Rows.{RowFits}
+use Rattle.sat_model.specs.Events.{RowsOver}
+use Rattle.paving.specs.RenewalLines.{renewal_lines}
 use Rattle.paving.specs.declared.steps.StepFault.{StepFault}
 use Rattle.paving.specs.declared.steps.StepFault.TheVariants as step_fault
 use Rattle.log_lines.specs.declared.line.LogLine.{LogLine}
@@ -9,11 +13,11 @@ use Rattle.log_lines.specs.Lines.{text_of}
 use Rattle.paving_log.proofs.LineLemmas.{text_of-append}
 use Rattle.log_writer.specs.declared.fault.WriteFault.{WriteFault}
 use Rattle.log_writer.specs.declared.fault.WriteFault.TheVariants as why
-use Rattle.log_writer.specs.Pieces.{Piece, piece, log_bytes, alone}
+use Rattle.log_writer.specs.Pieces.{Piece, piece, log_bytes, alone, row_pieces}
 use Rattle.log_writer.specs.Steps.{in_paving, BrokeAfter}
-use Rattle.log_writer.specs.Writing.{Seen, Went, Ended}
+use Rattle.log_writer.specs.Writing.{Seen, Went, Ended, Written}
 use Rattle.log_writer.proofs.FaultLemmas.{went_left, the_err, err_is}
-use Rattle.log_writer.proofs.SatLemmas.{IsItemAt, longer}
+use Rattle.log_writer.proofs.SatLemmas.{IsItemAt, one_longer}
 use Rattle.log_writer.proofs.TextLemmas.{alone_text}
 use Rattle.log_writer.proofs.WritingLemmas.{went_none, ended_behind, ended_before}
 
@@ -66,7 +70,7 @@ pub line_broke : (a b c : Seen) (lines : List LogLine) (i : ℕ) (l : LogLine) (
     → ((the_err fault ≡ Err why.Full) ↔ (b.left < length bytes)) → BrokeAfter a lines i fault c
 line_broke a b c lines i l fault bytes at went is ended full =
     let broke = by_bytes b c l fault bytes is ended full in
-    let more : take i lines ++ l ∷ [] ≡ take (i + 1) lines = longer alone lines i l at in
+    let more : take i lines ++ l ∷ [] ≡ take (i + 1) lines = one_longer lines i l at in
     let text : length (text_of (take (i + 1) lines)) ≡ length (log_bytes (map alone (take i lines))) + length (text_of (l ∷ []))
     = omega (
       arith,
@@ -117,6 +121,16 @@ pub among_all : (a c : Seen) (lines : List LogLine) (n : ℕ) (fault : WriteFaul
 among_all a c lines n fault ended =
     subst (λ (ps : List Piece). Ended a ps fault c) (sym (map-append alone (take n lines) (drop n lines)) ∙ ap (map alone) (take-append-drop n lines))
     (ended_before a c (map alone (take n lines)) (map alone (drop n lines)) fault ended)
+
+-- the lines of rows that are renewed, by how the writing ended
+pub renewal_wrote : (a c : Seen) (new : RowsOver) (r : Result (Unit {0}) WriteFault)
+    → AllByRecursion RowFits new.rows
+    → OnOk r (AllByRecursion RowFits new.rows → Went a (row_pieces new) c)
+    → IfErr r (λ (fault : WriteFault). (taken : ℕ) × (taken ≤ length new.rows)
+    × (AllByRecursion RowFits new.rows → BrokeAfter a (renewal_lines new) taken fault c))
+    → Written a (row_pieces new) r c
+renewal_wrote a c new (Ok done) fit went broke = went fit
+renewal_wrote a c new (Err fault) fit went (taken, le, broke) = among_all a c (renewal_lines new) (taken + 1) fault (broke fit).ended
 
 -- ---- what a paving is told
 

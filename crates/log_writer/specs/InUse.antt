@@ -1,5 +1,5 @@
 -- The rows that are in use behind the last renewal. No public clause cites it.
-use Rattle.std.specs.Prelude.{◌≡◌, ◌⊎◌, List, Option, None, Some}
+use Rattle.std.specs.Prelude.{◌≡◌, ◌⊎◌, List, take, Option, None, Some}
 use Rattle.std.specs.Option.{option_map}
 use Rattle.grid_model.specs.Boxes.{GridBox, grid_box, IsInside}
 use Rattle.sat_model.specs.declared.rows.Row.{Row}
@@ -7,7 +7,7 @@ use Rattle.sat_model.specs.Events.{RowsOver, rows_over}
 use Rattle.log_writer.specs.declared.in_use.NewRows.{NewRows}
 
 abbrev pub rows_value : NewRows → RowsOver
-rows_value new = rows_over (grid_box new.part) new.rows.items
+rows_value new = rows_over (grid_box new.part) (take new.count new.rows)
 
 abbrev pub rows_option : Option NewRows → Option RowsOver
 rows_option renewed = option_map rows_value renewed

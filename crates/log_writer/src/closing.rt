@@ -58,7 +58,7 @@ fn put_last<P: Pen>(pen: &mut P, last: &Option<NewRows>) -> Result<(), WriteFaul
     ensures trust { Trusts (P.trust pen.old) result (P.trust pen.new) }
 {
     match last {
-        Some(new) => put_renewal(pen, &new.part, &new.rows),
+        Some(new) => put_renewal(pen, &new.part, new.as_slice()),
         None => Ok(()),
     }
 }
@@ -77,12 +77,12 @@ fn showing_rows<'a>(
     ensures few { length result.now ≤ 64 }
 {
     if let Some(new) = last {
-        return &new.rows;
+        return new.as_slice();
     }
     match before {
         Some(used) => {
             if lies_in(hull, &used.part) {
-                &used.rows
+                used.as_slice()
             } else {
                 first
             }
@@ -128,6 +128,8 @@ pub(crate) fn put_closing<P: Pen, M: Renewals>(
     let Some(directions) = &search.wanted.directions else {
         return put_done(pen, &done.counts);
     };
+    let list = directions.over(search.root);
+    let along = list.as_slice();
     let used = part_in_use(search.root, &done.renewed);
     let last = last_renewal(maker, &used, done.kept, search.rows.len());
     put_last(pen, &last)?;
@@ -136,6 +138,5 @@ pub(crate) fn put_closing<P: Pen, M: Renewals>(
         return Ok(());
     };
     let rows = showing_rows(&hull, &last, &done.renewed, search.rows);
-    let outliers = search.wanted.rules.outliers;
-    put_bounds(pen, rows, &hull, outliers, &directions.over(search.root))
+    put_bounds(pen, rows, &hull, search.wanted.rules.outliers, along)
 }

@@ -95,6 +95,7 @@ fn pave_on<P: Pen, M: Renewals>(
     plan: Plan,
     maker: &M,
 ) -> Result<Outcome, WriteFault>
+    requires few { length plan.test.rows ≤ 64 }
     requires rows { AllByRecursion RowFits plan.test.rows }
     requires root { (M.maker maker.now).active ≡ true → M.root maker.now ≡ grid_box plan.root }
     requires sats { (M.maker maker.now).active ≡ true
@@ -114,7 +115,7 @@ fn pave_on<P: Pen, M: Renewals>(
                 bisections: counts.bisections,
             },
             kept: track.kept,
-            renewed: track.renewed.take(),
+            renewed: track.renewed,
         }),
         Err(StepFault::Failed) => Err(track.last),
         Err(StepFault::Full) => Err(track.last),
@@ -123,6 +124,7 @@ fn pave_on<P: Pen, M: Renewals>(
 
 /// The same on a pen.
 fn put_steps<P: Pen, M: Renewals>(pen: &mut P, plan: Plan, maker: &M) -> Result<Outcome, WriteFault>
+    requires few { length plan.test.rows ≤ 64 }
     requires rows { AllByRecursion RowFits plan.test.rows }
     requires root { (M.maker maker.now).active ≡ true → M.root maker.now ≡ grid_box plan.root }
     requires sats { (M.maker maker.now).active ≡ true

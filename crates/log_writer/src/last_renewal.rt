@@ -4,11 +4,10 @@ ghost use Rattle.std.specs.Prelude.{◌≡◌, ◌↔◌, ◌<◌, ◌≤◌, le
 ghost use Rattle.grid_model.specs.Boxes.{GridBox, grid_box, IsInside};
 ghost use Rattle.paving.specs.Renewing.{GivesFrom};
 ghost use Rattle.subpaving.specs.LiveValues.{box_option};
-ghost use Rattle.log_writer.specs.InUse.{rows_option};
+ghost use Rattle.log_writer.specs.InUse.{rows_value, rows_option};
 ghost use Rattle.log_writer.specs.LastRenewals.{IsHalf, RenewsOver};
 
-use crate::in_use::NewRows;
-use arrayvec::ArrayVec;
+use crate::in_use::{NewRows, no_row};
 use grid_model::Box3;
 use paving::Renewals;
 use sat_model::Row;
@@ -38,18 +37,25 @@ fn row_in_place<M: Renewals>(maker: &M, i: u32, part: &Box3) -> Row
 }
 
 /// Rows of so many satellites anew for a box.
-fn rows_anew<M: Renewals>(maker: &M, count: usize, part: &Box3) -> ArrayVec<Row, 64>
+fn rows_anew<M: Renewals>(maker: &M, count: usize, part: &Box3) -> NewRows
     requires sats { length (M.sats maker.now) ≡ count }
     requires few { count ≤ 64 }
     requires inside { IsInside (grid_box part.now) (M.root maker.now) }
-    ensures count { length result.items ≡ count }
-    ensures gives { GivesFrom (M.maker maker.now) 0 (grid_box part.now) result.items }
+    ensures part { result.part ≡ part.now }
+    ensures count { result.count ≡ count }
+    ensures rows { length result.rows ≡ 64 }
+    ensures gives { GivesFrom (M.maker maker.now) 0 (grid_box part.now)
+        (rows_value result).rows }
 {
-    let mut rows = ArrayVec::new();
+    let mut rows = [no_row(); 64];
     for i in 0..count {
-        rows.push(row_in_place(maker, i as u32, part));
+        rows[i] = row_in_place(maker, i as u32, part);
     }
-    rows
+    NewRows {
+        part: *part,
+        rows,
+        count,
+    }
 }
 
 /// So many rows anew for the hull of the kept boxes, where there is one, the maker is active and the
@@ -70,12 +76,14 @@ pub(crate) fn last_renewal<M: Renewals>(
     if !maker.active() {
         return None;
     }
-    let part = hull?;
-    if !is_half(used, &part) {
-        return None;
+    match hull {
+        Some(part) => {
+            if is_half(used, &part) {
+                Some(rows_anew(maker, count, &part))
+            } else {
+                None
+            }
+        }
+        None => None,
     }
-    Some(NewRows {
-        part,
-        rows: rows_anew(maker, count, &part),
-    })
 }

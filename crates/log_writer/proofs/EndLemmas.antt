@@ -1,0 +1,140 @@
+-- What stands behind the events of a whole run, as it is put line by line.
+use Rattle.std.proofs.Common.{◌≡◌, ℕ, ◌≤◌, List, [], ◌∷◌, ◌++◌, length, map, Option, None, Some, Result, Ok, Err, refl, sym, ap, subst, ◌∙◌, append-nil, append_assoc}
+use Rattle.std.specs.List.{flat_map, AllByRecursion}
+use Rattle.bound_directions.specs.Directions.{IsDirectionsOf}
+use Rattle.bound_directions.specs.declared.direction.Direction.{Direction}
+use Rattle.bound_directions.specs.declared.directions.Directions.{Directions}
+use Rattle.epoch_report.specs.declared.counts.Counts4.{Counts4}
+use Rattle.epoch_report.specs.ReportLines.{total_text_of}
+use Rattle.grid_model.specs.Boxes.{GridBox, IsInside}
+use Rattle.sat_model.specs.Bounds.{BoundValue}
+use Rattle.sat_model.specs.declared.rows.Row.{Row}
+use Rattle.sat_model.specs.Events.{Event, RowsOver, steps_in}
+use Rattle.sat_model.specs.Fold.{pieces}
+use Rattle.sat_model.specs.KeptHulls.{kept_hull}
+use Rattle.sat_model.specs.Pairs.{form_of}
+use Rattle.sat_model.specs.ShownBounds.{rows_behind}
+use Rattle.paving.specs.Renewing.{Maker}
+use Rattle.log_lines.specs.declared.line.LogLine.TheVariants as line
+use Rattle.log_lines.specs.Rows.{RowFits}
+use Rattle.log_lines.specs.Text.{bound_lines}
+use Rattle.subpaving.specs.LiveValues.{box_option}
+use Rattle.log_writer.specs.declared.fault.WriteFault.{WriteFault}
+use Rattle.log_writer.specs.declared.outcome.Outcome.{Outcome}
+use Rattle.log_writer.specs.declared.wanted.Wanted.{Wanted}
+use Rattle.log_writer.specs.Bounding.{AreBoundsFor}
+use Rattle.log_writer.specs.Found.{WroteFound}
+use Rattle.log_writer.specs.InUse.{rows_option, used_last, AreShowing}
+use Rattle.log_writer.specs.LastRenewals.{RenewsIf, RenewsOver, RenewsLast, last_events}
+use Rattle.log_writer.specs.Pieces.{Piece, alone, with_report}
+use Rattle.log_writer.specs.Writing.{Seen, Went, Ended, Written}
+use Rattle.log_writer.specs.Wrote.{IsBehind, last_pieces, closing_pieces, WroteClosing}
+use Rattle.log_writer.proofs.AlongLemmas.{along_none}
+use Rattle.log_writer.proofs.ClosingLemmas.{last_hull, rows_shown, all_shown}
+use Rattle.log_writer.proofs.StepSizes.{GivesFit, given_fit}
+use Rattle.log_writer.proofs.WritingLemmas.{went_twice, ended_behind, ended_before, written_behind}
+
+one_new : (x y : RowsOver) → Some x ≡ Some y → x ≡ y
+one_new x y e = cc
+
+one_hull : (x y : GridBox) (o : Option GridBox) → o ≡ Some x → o ≡ Some y → x ≡ y
+one_hull x y o e f = cc
+
+-- the rows that are renewed once more fit in lines
+pub new_fits : (maker : Maker) (used : GridBox) (hull : Option GridBox) (n : ℕ) (last : Option RowsOver)
+    → GivesFit maker → RenewsOver maker used hull n last
+    → (new : RowsOver) → last ≡ Some new → AllByRecursion RowFits new.rows
+new_fits maker used hull n None fit renews new some = absurd cc
+new_fits maker used hull n (Some x) fit (active, is, half, same, gives) new some =
+    subst (λ (y : RowsOver). AllByRecursion RowFits y.rows) (one_new x new some) (given_fit maker (fit active) 0 x.part x.rows gives)
+
+abbrev pub done_piece : Counts4 → Piece
+done_piece counts = with_report (line.Done counts.bisections) (total_text_of counts)
+
+-- no bounds are asked for
+pub closing_plain : {T : Type 0} (wanted : Wanted) (maker : Maker) (first : RowsOver) (events : List Event) (counts : Counts4) (a c : Seen) (r : Result T WriteFault)
+    → wanted.directions ≡ None → Written a (done_piece counts ∷ []) r c
+    → WroteClosing wanted maker first events counts a r c
+closing_plain wanted maker first events counts a c r none written = record {
+  last = None;
+  renews = rw none refl;
+  bounds = [];
+  bounded = rw none refl;
+  written = written;
+}
+
+module _ (wanted : Wanted) (d : Directions) (asks : wanted.directions ≡ Some d) (list : List Direction) (are : IsDirectionsOf d list) (few : length list ≤ 64) (maker : Maker) (first : RowsOver) (events : List Event) (done : Outcome) (behind : IsBehind first events done) (last : Option RowsOver) (renews : RenewsOver maker (used_last first (rows_option done.renewed)).part (box_option done.kept) (length first.rows) last) where
+  its_renewal : RenewsLast wanted.directions maker first events last
+  its_renewal =
+      subst (λ (o : Option Directions). RenewsLast o maker first events last) (sym asks)
+      (subst (λ (hull : Option GridBox). RenewsOver maker (rows_behind first events).part hull (length first.rows) last) behind.kept
+      (subst (λ (used : RowsOver). RenewsOver maker used.part (box_option done.kept) (length first.rows) last) behind.in_use renews))
+
+  no_bounds : AreBoundsFor wanted.directions wanted.rules.outliers first (events ++ last_events last) []
+  no_bounds =
+      subst (λ (o : Option Directions). AreBoundsFor o wanted.rules.outliers first (events ++ last_events last) []) (sym asks)
+      (record { list = list; are_they = are; few = few; along = along_none list; fit = tt; shown = tt })
+
+  -- the last renewal broke
+  pub closing_last : {T : Type 0} (a c : Seen) (fault : WriteFault)
+      → Ended a (last_pieces last) fault c
+      → WroteClosing {T = T} wanted maker first events done.counts a (Err fault) c
+  closing_last a c fault ended = record {
+    last = last;
+    renews = its_renewal;
+    bounds = [];
+    bounded = no_bounds;
+    written = ended_before a c (last_pieces last) (done_piece done.counts ∷ []) fault ended;
+  }
+
+  -- the number of splits broke, or was put and there are no bounds
+  pub closing_done : {T : Type 0} (a b c : Seen) (r : Result T WriteFault)
+      → Went a (last_pieces last) b → Written b (done_piece done.counts ∷ []) r c
+      → WroteClosing wanted maker first events done.counts a r c
+  closing_done a b c r went written = record {
+    last = last;
+    renews = its_renewal;
+    bounds = [];
+    bounded = no_bounds;
+    written = written_behind a b c (last_pieces last) (done_piece done.counts ∷ []) r went written;
+  }
+
+  -- the bounds were written, or broke off
+  module _ (hull : GridBox) (kept : box_option done.kept ≡ Some hull) (in_root : IsInside hull first.part) (rows : List Row) (showing : AreShowing hull last (rows_option done.renewed) first.rows rows) where
+    is_hull : kept_hull (pieces first.part (steps_in (events ++ last_events last))) ≡ Some hull
+    is_hull = last_hull first.part events last ∙ sym behind.kept ∙ kept
+
+    same_hull : (new : RowsOver) → last ≡ Some new → hull ≡ new.part
+    same_hull new some = hull_in last new renews some
+      where
+        hull_in : (o : Option RowsOver) (new : RowsOver)
+            → RenewsOver maker (used_last first (rows_option done.renewed)).part (box_option done.kept) (length first.rows) o
+            → o ≡ Some new → hull ≡ new.part
+        hull_in None new renewing some = absurd cc
+        hull_in (Some x) new (active, is, half, same, gives) some =
+            one_hull hull x.part (box_option done.kept) kept is ∙ ap (λ (y : RowsOver). y.part) (one_new x new some)
+
+    pub closing_bounds : {T : Type 0} (a b c e : Seen) (r : Result T WriteFault)
+        → Went a (last_pieces last) b → Went b (done_piece done.counts ∷ []) c
+        → WroteFound list (map (form_of hull) rows) hull wanted.rules.outliers c r e
+        → WroteClosing wanted maker first events done.counts a r e
+    closing_bounds a b c e r went also found =
+        let over = rows_shown hull first events last (rows_option done.renewed) rows in_root behind.in_use same_hull showing in
+        let tail : List Piece = map alone (flat_map bound_lines found.bounds) in
+        record {
+          last = last;
+          renews = its_renewal;
+          bounds = found.bounds;
+          bounded = subst (λ (o : Option Directions). AreBoundsFor o wanted.rules.outliers first (events ++ last_events last) found.bounds) (sym asks)
+              (record {
+                list = list;
+                are_they = are;
+                few = few;
+                along = found.found.along;
+                fit = found.found.fit;
+                shown = all_shown wanted.rules.outliers first (events ++ last_events last) hull rows found.bounds is_hull over found.found.shown;
+              });
+          written = subst (λ (ps : List Piece). Written a ps r e) (append_assoc (last_pieces last) (done_piece done.counts ∷ []) tail)
+              (written_behind a c e (last_pieces last ++ done_piece done.counts ∷ []) tail r
+              (went_twice a b c (last_pieces last) (done_piece done.counts ∷ []) went also) found.written);
+        }
