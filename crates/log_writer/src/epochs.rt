@@ -36,6 +36,15 @@ use std::alloc::Global;
 /// The bytes of the first line of a head.
 const VERSION_LENGTH: usize = 11;
 
+/// The rows among the satellite lines.
+fn rows_in(alloc: Global, sats: &[SatEntry]) -> Result<Vec<Row>, WriteFault>
+    ensures rows { IfOk result (λ rows. rows.items ≡ rows_of sats.now) }
+    ensures no_memory { IfErr result (λ fault. fault ≡ WriteFault.NoMemory) }
+{
+    let rows = rows_among(alloc, sats)?;
+    Ok(rows)
+}
+
 /// What is to be paved by these rows.
 fn plan_of(alloc: Global, rows: &[Row], rules: &Rules, root: &Box3) -> Result<Plan, WriteFault>
     requires { (rules.now.outliers + 4 ≤ length rows.now) × (length rows.now ≤ most_sats) }
@@ -193,7 +202,7 @@ fn put_epoch<P: Pen, M: Renewals>(
     put_sats(pen, &epoch.sats)?;
     match &epoch.body {
         Some(body) => {
-            let rows = rows_among(alloc, &epoch.sats)?;
+            let rows = rows_in(alloc, &epoch.sats)?;
             let plan = plan_of(alloc, &rows, &wanted.rules, &body.root)?;
             let search = Search {
                 rows: &rows,
