@@ -45,16 +45,7 @@ pub fn write_solution<H: Shelf, O: Sink, E: Sink>(
     };
     let mut blocks = ObsBlocks::of_walk(alloc, &source, searches, &settings.rules, settings.renew);
     let wanted = wanted_by(settings);
-    write_named(
-        alloc,
-        limits,
-        log,
-        &wanted,
-        &mut blocks,
-        shelf,
-        out,
-        err,
-    )
+    write_named(alloc, limits, log, &wanted, &mut blocks, shelf, out, err)
 }
 
 /// Does what `solve OBS NAV SETTINGS LOG` asks for.

@@ -18,7 +18,7 @@ use std::alloc::{AllocError, Global};
 use std::test::Fail;
 
 /// The rows of a text.
-fn rows_in(alloc: Global, text: &str) -> Result<Log, Fail>
+pub fn rows_in(alloc: Global, text: &str) -> Result<Log, Fail>
     ensures fits { IfOk result (λ rows. LogFits kind.Rows (log_value rows)) }
     ensures passes { IfOk result (λ rows. AllOwnPass rows.rules None (log_value rows).blocks) }
 {
@@ -34,7 +34,7 @@ fn rows_in(alloc: Global, text: &str) -> Result<Log, Fail>
 /// Devices on which a log is written: the bytes that each takes, and the number of its call that
 /// fails, none where it is 0. The log is created by call 1 of the shelf.
 #[derive(Clone, Copy)]
-struct Devices {
+pub struct Devices {
     room: u64,
     fails: u64,
     out_room: u64,
@@ -42,7 +42,7 @@ struct Devices {
 }
 
 /// Devices that take all.
-const WHOLE: Devices = Devices {
+pub const WHOLE: Devices = Devices {
     room: 200_000,
     fails: 0,
     out_room: 200_000,
@@ -50,7 +50,7 @@ const WHOLE: Devices = Devices {
 };
 
 /// Devices whose log fails at a call.
-fn failing_log(fails: u64) -> Devices {
+pub fn failing_log(fails: u64) -> Devices {
     Devices { fails, ..WHOLE }
 }
 
@@ -71,14 +71,14 @@ fn small_report(out_room: u64) -> Devices {
 
 /// What they hold in the end.
 #[derive(Drop)]
-struct Held {
-    result: Result<(), WriteFault>,
-    shelf: MemoryShelf,
-    out: MemorySink,
+pub struct Held {
+    pub result: Result<(), WriteFault>,
+    pub shelf: MemoryShelf,
+    pub out: MemorySink,
 }
 
 /// Writes the log of these blocks up to the limit.
-fn write<B: Blocks>(
+pub fn write<B: Blocks>(
     alloc: Global,
     wanted: &Wanted,
     blocks: &mut B,
@@ -110,7 +110,7 @@ fn write_rows(alloc: Global, rows: &str, limit: u32, devices: &Devices) -> Resul
 }
 
 /// The bytes of the log.
-fn log_bytes(held: &Held) -> &[u8] {
+pub fn log_bytes(held: &Held) -> &[u8] {
     held.shelf.file("b.log").unwrap_or(&[])
 }
 

@@ -1,5 +1,5 @@
 -- Bounds along directions: one list of them behind another, and how many lines they have.
-use Rattle.std.proofs.Common.{◌≡◌, ℕ, suc, ◌+◌, ◌*◌, ◌≤◌, arith, List, [], ◌∷◌, ◌++◌, length, map, take, drop, Ok, Err, Result, inl, inr, sym, ap, subst, ◌∙◌, append-nil, length-append, take-append-drop}
+use Rattle.std.proofs.Common.{◌≡◌, ℕ, ◌+◌, ◌*◌, ◌≤◌, arith, List, [], ◌∷◌, ◌++◌, length, map, take, drop, Ok, Err, Result, inl, inr, sym, ap, subst, ◌∙◌, append-nil, length-append, take-append-drop}
 use Rattle.std.specs.List.{flat_map, AllByRecursion}
 use Rattle.std.proofs.lemmas.List.{map-append, length-map}
 use Rattle.std.proofs.lemmas.List.Concat.{flat_map-append}

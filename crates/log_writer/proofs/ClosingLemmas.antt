@@ -1,33 +1,27 @@
 -- What stands behind the events of a whole run: rows that are renewed once more, and bounds.
-use Rattle.std.proofs.Common.{◌≡◌, ℕ, suc, ◌+◌, ◌*◌, ◌≤◌, arith, List, [], ◌∷◌, ◌++◌, length, map, append-nil, append_assoc, inl, inr, Option, None, Some, refl, sym, ap, subst, ◌∙◌, length-append}
-use Rattle.std.specs.Prelude.{true, if◌then◌else◌, Bool, is_some}
+use Rattle.std.proofs.Common.{◌≡◌, ℕ, suc, List, [], ◌∷◌, ◌++◌, append-nil, append_assoc, inl, inr, Option, None, Some, refl, sym, ap, subst, ◌∙◌}
+use Rattle.std.specs.Prelude.{true}
 use Rattle.std.specs.List.{flat_map, AllByRecursion}
-use Rattle.bound_directions.specs.declared.direction.Direction.{Direction}
-use Rattle.bound_directions.specs.declared.directions.Directions.{Directions}
 use Rattle.sat_model.specs.declared.rules.Rules.{Rules}
 use Rattle.sat_model.specs.declared.rows.Row.{Row}
 use Rattle.grid_model.specs.Boxes.{GridBox, IsInside}
 use Rattle.grid_model.proofs.BoxLemmas.{lies_refl}
 use Rattle.sat_model.specs.Bounds.{BoundValue}
-use Rattle.sat_model.specs.BoxTests.{BoxTest}
-use Rattle.sat_model.specs.Events.{Event, Made, Renewed, RowsOver, rows_over, steps_in, lines_of_all}
+use Rattle.sat_model.specs.Events.{Event, Made, Renewed, RowsOver, steps_in}
 use Rattle.sat_model.specs.Fold.{Subpaving, boxes_after, taken_by, live_box, pieces, IsLive, NoneLive}
-use Rattle.sat_model.specs.HalfSpaces.{FormsShow, ShowHalfSpace}
+use Rattle.sat_model.specs.HalfSpaces.{ShowHalfSpace}
 use Rattle.sat_model.specs.KeptHulls.{kept_hull}
-use Rattle.sat_model.specs.Pairs.{form_of}
 use Rattle.sat_model.specs.Renewals.{AnyLine, IsOfPlace, LinesPass}
 use Rattle.sat_model.specs.ShownBounds.{rows_behind, AreOver, AreBoundsShown}
 use Rattle.sat_model.specs.Stages.{Stage, after}
 use Rattle.sat_model.specs.Verdicts.{EventsPass}
-use Rattle.sat_model.proofs.EventLemmas.{steps_behind, lines_behind}
+use Rattle.sat_model.proofs.EventLemmas.{steps_behind}
 use Rattle.log_lines.specs.declared.line.LogLine.TheVariants as line
 use Rattle.epoch_report.specs.Reports.{piece_text}
 use Rattle.paving.specs.Renewing.{Maker, GivesFrom}
 use Rattle.paving.proofs.TurnLemmas.{Suits}
-use Rattle.log_writer.specs.Bounding.{AreBoundsAlong, AreBoundsFor}
-use Rattle.log_writer.specs.Found.{AreFound}
 use Rattle.log_writer.specs.InUse.{used_last, AreShowing}
-use Rattle.log_writer.specs.LastRenewals.{RenewsLast, last_events}
+use Rattle.log_writer.specs.LastRenewals.{last_events}
 use Rattle.log_writer.specs.Pieces.{Piece, with_report, row_pieces, event_pieces}
 use Rattle.log_writer.specs.Wrote.{last_pieces}
 
@@ -61,7 +55,7 @@ pub last_apart : (boxes : Subpaving) (events : List Event) (last : Option RowsOv
     → event_pieces boxes (events ++ last_events last) ≡ event_pieces boxes events ++ last_pieces last
 last_apart boxes [] None = refl
 last_apart boxes [] (Some new) = append-nil (row_pieces new)
-last_apart boxes (Made step ∷ events) last = 
+last_apart boxes (Made step ∷ events) last =
     ap (λ (ps : List Piece). with_report (line.Step step) (flat_map piece_text (taken_by boxes step)) ∷ ps) (last_apart (boxes_after boxes step) events last)
 last_apart boxes (Renewed new ∷ events) last =
     ap (λ (ps : List Piece). row_pieces new ++ ps) (last_apart boxes events last)

@@ -1,5 +1,5 @@
 -- What stands behind the events of a whole run, as it is put line by line.
-use Rattle.std.proofs.Common.{◌≡◌, ℕ, ◌≤◌, List, [], ◌∷◌, ◌++◌, length, map, Option, None, Some, Result, Ok, Err, refl, sym, ap, subst, ◌∙◌, append-nil, append_assoc}
+use Rattle.std.proofs.Common.{◌≡◌, ℕ, ◌≤◌, List, [], ◌∷◌, ◌++◌, length, map, Option, None, Some, Result, Err, refl, sym, ap, subst, ◌∙◌, append_assoc}
 use Rattle.std.specs.List.{flat_map, AllByRecursion}
 use Rattle.bound_directions.specs.Directions.{IsDirectionsOf}
 use Rattle.bound_directions.specs.declared.direction.Direction.{Direction}
@@ -7,7 +7,6 @@ use Rattle.bound_directions.specs.declared.directions.Directions.{Directions}
 use Rattle.epoch_report.specs.declared.counts.Counts4.{Counts4}
 use Rattle.epoch_report.specs.ReportLines.{total_text_of}
 use Rattle.grid_model.specs.Boxes.{GridBox, IsInside}
-use Rattle.sat_model.specs.Bounds.{BoundValue}
 use Rattle.sat_model.specs.declared.rows.Row.{Row}
 use Rattle.sat_model.specs.Events.{Event, RowsOver, steps_in}
 use Rattle.sat_model.specs.Fold.{pieces}
@@ -25,14 +24,14 @@ use Rattle.log_writer.specs.declared.wanted.Wanted.{Wanted}
 use Rattle.log_writer.specs.Bounding.{AreBoundsFor}
 use Rattle.log_writer.specs.Found.{WroteFound}
 use Rattle.log_writer.specs.InUse.{rows_option, used_last, AreShowing}
-use Rattle.log_writer.specs.LastRenewals.{RenewsIf, RenewsOver, RenewsLast, last_events}
+use Rattle.log_writer.specs.LastRenewals.{RenewsOver, RenewsLast, last_events}
 use Rattle.log_writer.specs.Pieces.{Piece, alone, with_report}
 use Rattle.log_writer.specs.Writing.{Seen, Went, Ended, Written}
-use Rattle.log_writer.specs.Wrote.{IsBehind, last_pieces, closing_pieces, WroteClosing}
+use Rattle.log_writer.specs.Wrote.{IsBehind, last_pieces, WroteClosing}
 use Rattle.log_writer.proofs.AlongLemmas.{along_none}
 use Rattle.log_writer.proofs.ClosingLemmas.{last_hull, rows_shown, all_shown}
 use Rattle.log_writer.proofs.StepSizes.{GivesFit, given_fit}
-use Rattle.log_writer.proofs.WritingLemmas.{went_twice, ended_behind, ended_before, written_behind}
+use Rattle.log_writer.proofs.WritingLemmas.{went_twice, ended_before, written_behind}
 
 one_new : (x y : RowsOver) → Some x ≡ Some y → x ≡ y
 one_new x y e = cc

@@ -4,8 +4,7 @@ use Rattle.std.specs.Prelude.{cond}
 use Rattle.std.specs.List.{AllByRecursion}
 use Rattle.std.proofs.lemmas.Int.{ints}
 use Rattle.sat_model.specs.declared.rules.Rules.{Rules}
-use Rattle.sat_model.specs.declared.steps.Step.{Step}
-use Rattle.sat_model.specs.declared.steps.Step.TheVariants.{Cut, Split, Outside, Inside, Edge}
+use Rattle.sat_model.specs.declared.steps.Step.TheVariants.{Cut}
 use Rattle.grid_model.specs.Boxes.{Side, GridBox, side_at, with_side, IsSideInside, IsInside}
 use Rattle.grid_model.specs.Hulls.{joined_box}
 use Rattle.grid_model.proofs.BoxLemmas.{lies_trans, lies_refl}
@@ -18,7 +17,7 @@ use Rattle.sat_model.specs.StepKinds.{is_kept_step}
 use Rattle.sat_model.specs.Waiting.{WaitingBox, Paving, first_paving, IsNext}
 use Rattle.paving.specs.Paved.{AreStepsOf}
 use Rattle.paving.specs.Renewing.{AllInside, Maker}
-use Rattle.paving.specs.Turns.{Turn, ShownEvent, OfStep, shown_new, joined_turns, events_of, shown_steps, used_after, worked_on, behind_turn, PavesTurns, PavedTurns}
+use Rattle.paving.specs.Turns.{Turn, ShownEvent, shown_new, joined_turns, events_of, shown_steps, used_after, behind_turn, PavesTurns, PavedTurns}
 use Rattle.paving.proofs.PavedLemmas.{AreCutsInTurn, cuts_in_turn}
 use Rattle.paving.proofs.TurnLemmas.{turn_inside}
 use Rattle.log_lines.specs.Rows.{CornersFit, corners_of}

@@ -1,5 +1,5 @@
--- The bounds that were found over a hull by the forms of some rows, and written. No public clause cites
--- it.
+-- The bounds that were found over a hull by the forms of some rows, and written. No public clause
+-- cites it.
 use Rattle.std.specs.Prelude.{ℕ, List, map, Result}
 use Rattle.std.specs.List.{flat_map, AllByRecursion}
 use Rattle.bound_directions.specs.declared.direction.Direction.{Direction}

@@ -17,8 +17,8 @@ abbrev pub used_last : RowsOver → Option RowsOver → RowsOver
 used_last first None = first
 used_last first (Some new) = new
 
--- The rows by which bounds are shown over a hull: those that were renewed last, over it, else those of
--- the renewal before, where the hull lies in its box, and else the first ones.
+-- The rows by which bounds are shown over a hull: those that were renewed last, over it, else those
+-- of the renewal before, where the hull lies in its box, and else the first ones.
 abbrev pub AreShowing : GridBox → (last before : Option RowsOver) → (first rows : List Row)
     → Type 0
 AreShowing hull (Some new) before first rows = rows ≡ new.rows

@@ -1,7 +1,8 @@
--- One more renewal behind the last step of an epoch whose bounds are asked for: over the hull of the
--- boxes that are kept, since bounds are shown over that hull, and rows are the narrower the smaller
--- their box is.
-use Rattle.std.specs.Prelude.{◌≡◌, ℕ, ◌*◌, ◌<◌, ◌≤◌, true, List, [], ◌∷◌, length, Option, None, Some}
+-- One more renewal behind the last step of an epoch whose bounds are asked for: over the hull of
+-- the boxes that are kept, since bounds are shown over that hull, and rows are the narrower the
+-- smaller their box is.
+use Rattle.std.specs.Prelude.{◌≡◌, ℕ, ◌*◌, ◌<◌, ◌≤◌, true, List, [], ◌∷◌, length, Option, None}
+use Rattle.std.specs.Prelude.{Some}
 use Rattle.bound_directions.specs.declared.directions.Directions.{Directions}
 use Rattle.grid_model.specs.Boxes.{GridBox}
 use Rattle.grid_model.specs.Lengths.{longest_length}
@@ -16,8 +17,8 @@ pub record IsHalf (used hull : GridBox) : Type 0 where
   pub positive : 0 < longest_length used
   pub half : 2 * longest_length hull ≤ longest_length used
 
--- So many rows are renewed over the hull, where there is one, the maker is active and the hull is at
--- most half as long as the box of the rows in use, and else none.
+-- So many rows are renewed over the hull, where there is one, the maker is active and the hull is
+-- at most half as long as the box of the rows in use, and else none.
 abbrev pub RenewsOver : Maker → GridBox → Option GridBox → ℕ → Option RowsOver → Type 0
 RenewsOver maker used hull n None =
     (part : GridBox) → maker.active ≡ true → hull ≡ Some part → IsHalf used part → ⊥

@@ -30,11 +30,10 @@ pub record IsWhole {B : Type 0} (source : Source B) (rules : Rules) (first last 
   pub cover : RowCover log
   pub fits : length bytes ≤ limit
 
--- What this fault left of the head, of blocks whose runs are whole, the last one with the bounds that
--- were found when it came, and of the first lines of one more whose run broke off, where one was in
--- hand. They came from the source, each when the one
--- before was finished. That a run which broke off goes on to the end isn't said, and nothing is of
--- later blocks.
+-- What this fault left of the head, of blocks whose runs are whole, the last one with the bounds
+-- that were found so far, and of the first lines of one more whose run broke off, where one was in
+-- hand. They came from the source, each when the one before was finished. That a run which broke
+-- off goes on to the end isn't said, and nothing is of later blocks.
 pub record IsBegun {B : Type 0} (fault : WriteFault) (source : Source B) (rules : Rules) (first : B)
     (limit : ℕ) (bytes said : List ℕ) : Type 0 where
   pub blocks : List Block

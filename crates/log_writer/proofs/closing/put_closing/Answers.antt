@@ -1,4 +1,4 @@
-use Rattle.std.proofs.Common.{◌≡◌, ◌≤◌, arith, ap, length, map, subst, List, Some, Ok}
+use Rattle.std.proofs.Common.{◌≡◌, ◌≤◌, arith, ap, length, subst, List, Some, Ok}
 use Rattle.std.specs.Prelude.{slice_get}
 use Rattle.std.proofs.lemmas.Result.{err_from_is_err_and}
 use Rattle.gnss_model.specs.declared.satellites.Sat.{Sat}
@@ -66,5 +66,5 @@ returns-clause-written g c =
     let hull = grid_box c.in-Some-kept.hull in
     let kept = ap box_option c.in-Some-kept.is in
     λ events behind. closing_bounds search.wanted.now c.in-Some.directions c.in-Some.is list c.over-list.ensures few maker first events c.args.done.now behind last renews
-        hull kept (c.requires.inside hull kept) c.showing_rows-rows.result.now c.showing_rows-rows.ensures.are _ _ _ _ c.put_bounds.result
-        c.in_ok-put_last.ensures.written c.in_ok-put_done.ensures.written (rw c.as_slice-along.ensures.value at c.put_bounds.ensures.written)
+    hull kept (c.requires.inside hull kept) c.showing_rows-rows.result.now c.showing_rows-rows.ensures.are _ _ _ _ c.put_bounds.result
+    c.in_ok-put_last.ensures.written c.in_ok-put_done.ensures.written (rw c.as_slice-along.ensures.value at c.put_bounds.ensures.written)
