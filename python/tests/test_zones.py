@@ -258,7 +258,12 @@ class TestAnswers:
 
     def test_lines_of_a_log(self):
         text = "gpszones 2\nzone a 0 0 0 2 2 2\nprism b 1\nside 1 1 1 3\nreach c 2 0 -1\n"
-        log = [(1, [(0, 0, 0, 1, 1, 1)]), (2, None), (3, []), (4, [(0, 0, 0, 1, 1, 1), (5, 5, 5, 6, 6, 6)])]
+        log = [
+            (1, [(0, 0, 0, 1, 1, 1)], []),
+            (2, None, []),
+            (3, [], []),
+            (4, [(0, 0, 0, 1, 1, 1), (5, 5, 5, 6, 6, 6)], []),
+        ]
         wanted = (
             "epoch 1 zone a inside,epoch 1 zone b inside,epoch 1 reach c -1 2,epoch 2 few,epoch 3 zone a outside,"
             "epoch 3 zone b outside,epoch 3 reach c none,epoch 4 zone a open,epoch 4 zone b open,epoch 4 reach c -1 7,"
@@ -414,8 +419,7 @@ class TestGuards:
             [self.program, "guard", *self.files, path, log, *options], capture_output=True, text=True, timeout=600
         )
         assert (ran.returncode, ran.stderr) == (0, "")
-        boxes = ((e.index, None if e.few else [kept.box for kept in e.kept]) for e in read_epochs(log))
-        wanted = list(zones.lines(*zones.read_zones(path), boxes))
+        wanted = list(zones.lines(*zones.read_zones(path), zones.kept(read_epochs(log))))
         assert ran.stdout == "".join(line + "\n" for line in wanted)
         return wanted
 

@@ -44,14 +44,10 @@ class TestProgram:
         (self.room / name).write_text(content, newline="\n")
 
     def found(self):
-        """What the boxes of the log say of the zones."""
-        boxes = (
-            (e.index, None if e.few else [kept.box for kept in e.kept])
-            for e in epochs(self.room / "log")
-        )
-        return "".join(
-            line + "\n" for line in zones.lines(*zones.read_zones(self.room / "zones"), boxes)
-        )
+        """What the boxes and the bounds of the log say of the zones."""
+        things = zones.read_zones(self.room / "zones")
+        kept = zones.kept(epochs(self.room / "log"))
+        return "".join(line + "\n" for line in zones.lines(*things, kept))
 
     def expect(self, settings, forged):
         """The program's answer is the wanted one, and no file is made."""

@@ -203,7 +203,7 @@ class TestRecorded:
         low, high = (" ".join(map(str, corner)) for corner in (near, far))
         fence.write_text(f"gpszones 2\nzone round {low} {high}\nzone off {low} {low}\nreach up 0 0 1\n")
         status, said = self.said("guard", *files[:3], str(fence), files[3], *station)
-        boxes = [(epoch.index, list(epoch.boxes)) for epoch in found]
-        assert (status, said.splitlines()) == (0, list(zones.lines(*zones.read_zones(fence), boxes)))
+        wanted = list(zones.lines(*zones.read_zones(fence), zones.kept(found)))
+        assert (status, said.splitlines()) == (0, wanted)
         assert [epoch.ps % PS_PER_MS for epoch in found] == [0] * 4
         assert self.said("guard", *files[:3], str(fence), files[3])[0] == 3

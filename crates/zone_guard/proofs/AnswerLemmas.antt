@@ -1,36 +1,20 @@
--- Boxes that lie apart from a zone, or in it.
-use Rattle.std.proofs.Common.{◌≡◌, ℕ, ◌+◌, ◌<◌, ◌≤◌, arith, Bool, true, false, List, [], ◌∷◌, length, map, drop, get_or, inl, inr, refl}
-use Rattle.std.specs.Prelude.{ℤ, ◌↔◌}
-use Rattle.std.specs.List.{AllByRecursion}
-use Rattle.std.specs.Int.{int_max}
+-- Boxes that lie apart from a zone, and what they share with it.
+use Rattle.std.proofs.Common.{◌≡◌, arith, true, List, [], ◌∷◌, inl, inr, to_z, of_z}
+use Rattle.std.specs.Prelude.{ℤ, ◌≤ℤ◌}
+use Rattle.std.specs.Int.{int_max, int_min, w64}
 use Rattle.std.proofs.lemmas.Int.{ints, clamps}
-use Rattle.grid_model.specs.Boxes.{GridBox, grid_box, box_holds}
-use Rattle.sat_model.specs.Cover.{SomeKeeps, is_kept}
-use Rattle.sat_model.specs.Fold.{ShownStep}
+use Rattle.grid_model.specs.Boxes.{Side, GridBox, grid_box, box_holds}
+use Rattle.grid_model.specs.Sizes.{IsBoxSize}
 use Rattle.grid_model.specs.declared.boxes.Box3.{Box3}
 use Rattle.grid_model.specs.declared.boxes.Pos.{Pos}
+use Rattle.grid_model.proofs.IntervalLemmas.{max_within, min_within}
+use Rattle.grid_model.proofs.PlainLemmas.{uncast_end}
 use Rattle.grid_model.proofs.PointLemmas.{IsInBox, in_box, le_to}
-use Rattle.paving_log.specs.CoverBoxes.{kept_parts}
-use Rattle.zone_guard.specs.Answers.{IsApart, IsPart, AreApart, AreWithin}
-use Rattle.zone_guard.specs.Ends.{AreMet, LiesWithin}
+use Rattle.zone_guard.specs.Answers.{IsApart, IsApartWithin}
+use Rattle.zone_guard.specs.Beyond.{IsSoOfOne}
+use Rattle.zone_guard.specs.Ends.{AreMet, shared_side, shared_box}
+use Rattle.zone_guard.specs.Planes.{PlaneValue, LiesBeyond}
 use Rattle.std.proofs.lemmas.Bool.{and_from as and_true}
-use Rattle.grid_model.proofs.ListLemmas.{next_item, no_item}
-use Rattle.sat_model.proofs.KeptLemmas.{kept_step}
-use Rattle.paving_log.proofs.KeptParts.{kept_here, kept_later}
-
--- ---- kept boxes
-
-later_apart : (zone : GridBox) (piece : ShownStep) (more : List ShownStep) (kept : Bool)
-    → is_kept piece ≡ kept → AreApart zone (kept_parts (piece ∷ more))
-    → AreApart zone (kept_parts more)
-later_apart zone piece more true e apart = (rw (kept_here piece more e) at apart).1
-later_apart zone piece more false e apart = rw (kept_later piece more e) at apart
-
-pub none_kept : (zone : GridBox) (parts : List ShownStep) (p : Pos) (b : ℤ)
-    → AreApart zone (kept_parts parts) → box_holds zone p ≡ true → SomeKeeps p b parts → ⊥
-none_kept zone [] p b apart inside some = absurd some
-none_kept zone (piece ∷ more) p b apart inside (inl here) = (rw (kept_here piece more (kept_step piece.step b here.1)) at apart).0 p here.0 inside
-none_kept zone (piece ∷ more) p b apart inside (inr later) = none_kept zone more p b (later_apart zone piece more (is_kept piece) refl apart) inside later
 
 -- ---- two boxes
 
@@ -40,19 +24,19 @@ holds_from c p i =
     (and_true _ _ (and_true _ _ (le_to c.y.lo p.y i.y.0) (le_to p.y c.y.hi i.y.1)) (and_true _ _ (le_to c.z.lo p.z i.z.0) (le_to p.z c.z.hi i.z.1)))
 
 -- then they share a point
-shared : Box3 → Box3 → Pos
-shared a b = record { x = int_max a.lo.x b.lo.x; y = int_max a.lo.y b.lo.y; z = int_max a.lo.z b.lo.z }
+shared_point : Box3 → Box3 → Pos
+shared_point a b = record { x = int_max a.lo.x b.lo.x; y = int_max a.lo.y b.lo.y; z = int_max a.lo.z b.lo.z }
 
-shared_in : (a b : Box3) → AreMet (grid_box a) (grid_box b) → IsInBox (grid_box a) (shared a b)
-unfolding shared
+shared_in : (a b : Box3) → AreMet (grid_box a) (grid_box b) → IsInBox (grid_box a) (shared_point a b)
+unfolding shared_point
 shared_in a b m = record {
   x = (omega (arith, ints, clamps), omega (arith, ints, clamps, a.x_ordered, m.x.high));
   y = (omega (arith, ints, clamps), omega (arith, ints, clamps, a.y_ordered, m.y.high));
   z = (omega (arith, ints, clamps), omega (arith, ints, clamps, a.z_ordered, m.z.high));
 }
 
-shared_also : (a b : Box3) → AreMet (grid_box a) (grid_box b) → IsInBox (grid_box b) (shared a b)
-unfolding shared
+shared_also : (a b : Box3) → AreMet (grid_box a) (grid_box b) → IsInBox (grid_box b) (shared_point a b)
+unfolding shared_point
 shared_also a b m = record {
   x = (omega (arith, ints, clamps), omega (arith, ints, clamps, b.x_ordered, m.x.low));
   y = (omega (arith, ints, clamps), omega (arith, ints, clamps, b.y_ordered, m.y.low));
@@ -62,32 +46,7 @@ shared_also a b m = record {
 pub not_apart : (part zone : Box3) → AreMet (grid_box part) (grid_box zone)
     → IsApart (grid_box zone) (grid_box part) → ⊥
 not_apart part zone m apart =
-    apart (shared part zone) (holds_from (grid_box part) (shared part zone) (shared_in part zone m)) (holds_from (grid_box zone) (shared part zone) (shared_also part zone m))
-
--- ---- a part of the zone
-
-pub is_part : (part zone : Box3) → LiesWithin (grid_box part) (grid_box zone)
-    → IsPart (grid_box zone) (grid_box part)
-is_part part zone w p h =
-    let i = in_box (grid_box part) p h in
-    holds_from (grid_box zone) p (record {
-      x = (omega (arith, ints, w.x.low, i.x.0), omega (arith, ints, w.x.high, i.x.1));
-      y = (omega (arith, ints, w.y.low, i.y.0), omega (arith, ints, w.y.high, i.y.1));
-      z = (omega (arith, ints, w.z.low, i.z.0), omega (arith, ints, w.z.high, i.z.1));
-    })
-
-pub low_in : (b : Box3) → IsInBox (grid_box b) b.lo
-low_in b = record { x = (omega (arith, ints), b.x_ordered); y = (omega (arith, ints), b.y_ordered); z = (omega (arith, ints), b.z_ordered) }
-
-high_in : (b : Box3) → IsInBox (grid_box b) b.hi
-high_in b = record { x = (b.x_ordered, omega (arith, ints)); y = (b.y_ordered, omega (arith, ints)); z = (b.z_ordered, omega (arith, ints)) }
-
-pub part_within : (part zone : Box3) → IsPart (grid_box zone) (grid_box part)
-    → LiesWithin (grid_box part) (grid_box zone)
-part_within part zone h =
-    let l = in_box (grid_box zone) part.lo (h part.lo (holds_from (grid_box part) part.lo (low_in part))) in
-    let u = in_box (grid_box zone) part.hi (h part.hi (holds_from (grid_box part) part.hi (high_in part))) in
-    record { x = record { low = l.x.0; high = u.x.1 }; y = record { low = l.y.0; high = u.y.1 }; z = record { low = l.z.0; high = u.z.1 } }
+    apart (shared_point part zone) (holds_from (grid_box part) (shared_point part zone) (shared_in part zone m)) (holds_from (grid_box zone) (shared_point part zone) (shared_also part zone m))
 
 -- one lies behind the other on an axis
 pub behind_apart : (part zone : Box3) → (AreMet (grid_box part) (grid_box zone) → ⊥)
@@ -101,37 +60,67 @@ behind_apart part zone apart p h k =
       z = record { low = omega (arith, ints, i.z.0, j.z.1); high = omega (arith, ints, j.z.0, i.z.1) };
     })
 
--- ---- box by box
+-- ---- what two boxes share
 
--- what holds of those from a place on is what holds of all of them
-module _ (P : GridBox → Type 0) (boxes : List Box3) where
-  abbrev pub HoldsFrom : ℕ → Type 0
-  HoldsFrom i = AllByRecursion P (map grid_box (drop i boxes)) ↔ AllByRecursion P (map grid_box boxes)
+in_both : (s t : Side) (n : ℤ) → (s.lo ≤ℤ n) × (n ≤ℤ s.hi) → (t.lo ≤ℤ n) × (n ≤ℤ t.hi)
+    → ((shared_side s t).lo ≤ℤ n) × (n ≤ℤ (shared_side s t).hi)
+in_both s t n h k = (omega (arith, ints, clamps, h.0, k.0), omega (arith, ints, clamps, h.1, k.1))
 
-  pub from_next : (i : ℕ) (part : Box3) → i < length boxes → part ≡ get_or boxes i part
-      → P (grid_box part) → HoldsFrom i → HoldsFrom (i + 1)
-  from_next i part within is holds from =
-      let next = next_item boxes i part within is in
-      (λ rest. from.0 (rw next (holds, rest)), λ all. (rw next at (from.1 all)).1)
+in_first : (s t : Side) (n : ℤ) → ((shared_side s t).lo ≤ℤ n) × (n ≤ℤ (shared_side s t).hi)
+    → (s.lo ≤ℤ n) × (n ≤ℤ s.hi)
+in_first s t n h = (omega (arith, ints, clamps, h.0), omega (arith, ints, clamps, h.1))
 
-  pub not_here : (i : ℕ) (part : Box3) → i < length boxes → part ≡ get_or boxes i part
-      → (P (grid_box part) → ⊥) → HoldsFrom i → AllByRecursion P (map grid_box boxes) → ⊥
-  not_here i part within is fails from all =
-      let next = next_item boxes i part within is in
-      fails (rw next at (from.1 all)).0
+in_other : (s t : Side) (n : ℤ) → ((shared_side s t).lo ≤ℤ n) × (n ≤ℤ (shared_side s t).hi)
+    → (t.lo ≤ℤ n) × (n ≤ℤ t.hi)
+in_other s t n h = (omega (arith, ints, clamps, h.0), omega (arith, ints, clamps, h.1))
 
-  pub all_held : (i : ℕ) → length boxes ≤ i → HoldsFrom i → AllByRecursion P (map grid_box boxes)
-  all_held i ended from = from.0 (rw (no_item boxes i ended) tt)
+shared_holds : (a b : GridBox) (p : Pos) → box_holds a p ≡ true → box_holds b p ≡ true
+    → box_holds (shared_box a b) p ≡ true
+shared_holds a b p h k =
+    let i = in_box a p h in
+    let j = in_box b p k in
+    holds_from (shared_box a b) p (record { x = in_both a.x b.x p.x i.x j.x; y = in_both a.y b.y p.y i.y j.y; z = in_both a.z b.z p.z i.z j.z })
 
--- boxes that aren't apart are some
-pub some_boxes : (zone : GridBox) (boxes : List GridBox) → (AreApart zone boxes → ⊥) → boxes ≡ []
-    → ⊥
-some_boxes zone boxes met none = met (rw none tt)
+first_holds : (a b : GridBox) (p : Pos) → box_holds (shared_box a b) p ≡ true → box_holds a p ≡ true
+first_holds a b p h =
+    let i = in_box (shared_box a b) p h in
+    holds_from a p (record { x = in_first a.x b.x p.x i.x; y = in_first a.y b.y p.y i.y; z = in_first a.z b.z p.z i.z })
 
--- boxes that are apart from a zone aren't in it, where there is one
-pub not_both : (zone : GridBox) (boxes : List Box3) → AreApart zone (map grid_box boxes)
-    → AreWithin zone (map grid_box boxes) → ⊥
-not_both zone [] apart within = within.1 refl
-not_both zone (b ∷ boxes) apart within =
-    let low = holds_from (grid_box b) b.lo (low_in b) in
-    apart.0 b.lo low (within.0.0 b.lo low)
+other_holds : (a b : GridBox) (p : Pos) → box_holds (shared_box a b) p ≡ true → box_holds b p ≡ true
+other_holds a b p h =
+    let i = in_box (shared_box a b) p h in
+    holds_from b p (record { x = in_other a.x b.x p.x i.x; y = in_other a.y b.y p.y i.y; z = in_other a.z b.z p.z i.z })
+
+pub shared_apart : (part zone : GridBox) (bounds : List PlaneValue)
+    → IsSoOfOne (LiesBeyond (shared_box part zone)) bounds
+    → IsSoOfOne (IsApartWithin zone part) bounds
+shared_apart part zone [] past = absurd past
+shared_apart part zone (h ∷ bounds) (inl here) = inl (λ p held inside. here p (shared_holds part zone p held inside))
+shared_apart part zone (h ∷ bounds) (inr later) = inr (shared_apart part zone bounds later)
+
+pub apart_shared : (part zone : GridBox) (bounds : List PlaneValue)
+    → IsSoOfOne (IsApartWithin zone part) bounds
+    → IsSoOfOne (LiesBeyond (shared_box part zone)) bounds
+apart_shared part zone [] apart = absurd apart
+apart_shared part zone (h ∷ bounds) (inl here) = inl (λ p held. here p (first_holds part zone p held) (other_holds part zone p held))
+apart_shared part zone (h ∷ bounds) (inr later) = inr (apart_shared part zone bounds later)
+
+-- ---- the ends of what they share
+
+pub greater_end : (a b r : ℤ) → IsBoxSize a → IsBoxSize b
+    → r ≡ int_max (to_z w64 (of_z w64 a)) (to_z w64 (of_z w64 b))
+    → to_z w64 (of_z w64 r) ≡ int_max a b
+greater_end a b r p q e =
+    let same : r ≡ int_max a b = rw (uncast_end a p, uncast_end b q) at e in
+    rw same (uncast_end (int_max a b) (max_within _ a b p q))
+
+pub lesser_end : (a b r : ℤ) → IsBoxSize a → IsBoxSize b
+    → r ≡ int_min (to_z w64 (of_z w64 a)) (to_z w64 (of_z w64 b))
+    → to_z w64 (of_z w64 r) ≡ int_min a b
+lesser_end a b r p q e =
+    let same : r ≡ int_min a b = rw (uncast_end a p, uncast_end b q) at e in
+    rw same (uncast_end (int_min a b) (min_within _ a b p q))
+
+pub ends_ordered : (a b s t : ℤ) → a ≤ℤ b → s ≤ℤ t → a ≤ℤ t → s ≤ℤ b
+    → int_max a s ≤ℤ int_min b t
+ends_ordered a b s t h k l m = omega (arith, ints, clamps, h, k, l, m)

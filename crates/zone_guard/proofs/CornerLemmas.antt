@@ -10,12 +10,12 @@ use Rattle.grid_model.specs.Sizes.{IsWithin, IsBoxSize}
 use Rattle.grid_model.specs.declared.boxes.Box3.{Box3}
 use Rattle.grid_model.specs.declared.boxes.Pos.{Pos}
 use Rattle.grid_model.proofs.PointLemmas.{in_box}
-use Rattle.grid_model.proofs.ProductLemmas.{product_within}
+use Rattle.grid_model.proofs.ProductLemmas.{larger, product_within}
 use Rattle.grid_model.proofs.SpreadLemmas.{least_le_product, product_le_greatest}
 use Rattle.zone_guard.specs.Corners.{least_on, greatest_on, least_over, greatest_over}
-use Rattle.zone_guard.specs.Planes.{dot, PlaneValue, LiesBehind, LiesBeyond}
+use Rattle.log_tokens.specs.Fields.{IsPosWithin}
+use Rattle.zone_guard.specs.Planes.{dot, PlaneValue, LiesBeyond}
 use Rattle.zone_guard.proofs.AnswerLemmas.{holds_from}
-use Rattle.grid_model.proofs.IntervalLemmas.{le_z_trans as le_both}
 use Rattle.sat_model.proofs.PairAxisLemmas.{sum_within}
 use Rattle.grid_model.proofs.PlainLemmas.{held_itself}
 
@@ -27,16 +27,19 @@ uncast x k = omega (arith, ints, k.low, k.high)
 wider : (n : ℕ) (x : ℤ) → n ≤ 10 ^ 30 → IsWithin n x → IsWithin (10 ^ 30) x
 wider n x h w = record { low = omega (arith, ints, w.low, w.high); high = omega (arith, ints, w.low, w.high) }
 
-pub uncast_factor : (x : ℤ) → IsWithin 1048576 x → to_z w64 (of_z w64 x) ≡ x
+pub uncast_factor : (x : ℤ) → IsWithin 2199023255552 x → to_z w64 (of_z w64 x) ≡ x
 uncast_factor x k = omega (arith, ints, k.low, k.high)
 
-pub uncast_product : (a b : ℤ) → IsWithin 1048576 a → IsBoxSize b
+pub wide_direction : (a : Pos) → IsPosWithin 1048576 a → IsPosWithin 2199023255552 a
+wide_direction a w = (larger _ _ a.x (omega arith) w.0, larger _ _ a.y (omega arith) w.1, larger _ _ a.z (omega arith) w.2)
+
+pub uncast_product : (a b : ℤ) → IsWithin 2199023255552 a → IsBoxSize b
     → to_z w128 (of_z w128 (to_z w128 (of_z w128 a) *ℤ to_z w128 (of_z w128 b))) ≡ a *ℤ b
 uncast_product a b v w =
-    rw (uncast a (wider _ a (omega arith) v), uncast b (wider _ b (omega arith) w)) (uncast (a *ℤ b) (wider _ (a *ℤ b) (omega arith) (product_within 1048576 10000000000000 a b v w)))
+    rw (uncast a (wider _ a (omega arith) v), uncast b (wider _ b (omega arith) w)) (uncast (a *ℤ b) (wider _ (a *ℤ b) (omega arith) (product_within 2199023255552 10000000000000 a b v w)))
 
-pub uncast_sum : (x y z : ℤ) → IsWithin 10485760000000000000 x → IsWithin 10485760000000000000 y
-    → IsWithin 10485760000000000000 z
+pub uncast_sum : (x y z : ℤ) → IsWithin 21990232555520000000000000 x → IsWithin 21990232555520000000000000 y
+    → IsWithin 21990232555520000000000000 z
     → to_z w128 (of_z w128 (to_z w128 (of_z w128 x) +ℤ to_z w128 (of_z w128 (to_z w128 (of_z w128 y) +ℤ to_z w128 (of_z w128 z))))) ≡ x +ℤ (y +ℤ z)
 uncast_sum x y z u v w =
     let inner = sum_within _ _ y z v w in
@@ -138,13 +141,3 @@ pub not_beyond : (s : PlaneValue) (b : Box3) → least_over s.along (grid_box b)
 not_beyond s b h all =
     let low = least_point s.along b in
     no_less s.most _ h (subst (λ (v : ℤ). s.most <ℤ v) low.product (all low.point low.held))
-
-pub behind : (s : PlaneValue) (b : Box3) → greatest_over s.along (grid_box b) ≤ℤ s.most
-    → LiesBehind (grid_box b) s
-behind s b h p held = le_both _ _ _ (le_greatest s.along (grid_box b) p held) h
-
-pub not_behind : (s : PlaneValue) (b : Box3) → s.most <ℤ greatest_over s.along (grid_box b)
-    → LiesBehind (grid_box b) s → ⊥
-not_behind s b h all =
-    let high = greatest_point s.along b in
-    no_less s.most _ (subst (λ (v : ℤ). v ≤ℤ s.most) high.product (all high.point high.held)) h

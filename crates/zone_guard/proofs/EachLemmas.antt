@@ -5,9 +5,7 @@ use Rattle.std.specs.List.{AllByRecursion}
 use Rattle.std.proofs.lemmas.List.{take_more, take_all, map-append}
 use Rattle.grid_model.specs.Boxes.{GridBox, grid_box}
 use Rattle.grid_model.specs.declared.boxes.Box3.{Box3}
-use Rattle.zone_guard.specs.Planes.{plane_value, plane_values, LiesBeyond}
-use Rattle.zone_guard.specs.PrismAnswers.{IsShutOut}
-use Rattle.zone_guard.specs.declared.planes.HalfSpace.{HalfSpace}
+use Rattle.zone_guard.specs.Beyond.{IsSoOfOne}
 use Rattle.grid_model.proofs.ListLemmas.{next_item, no_item}
 
 -- what holds of the items from a place on is what holds of all of them
@@ -28,28 +26,28 @@ module _ {X Y : Type 0} (f : X → Y) (P : Y → Type 0) (xs : List X) where
   pub each_held : (i : ℕ) → length xs ≤ i → EachFrom i → AllByRecursion P (map f xs)
   each_held i ended from = from.0 (rw (no_item xs i ended) tt)
 
--- the box lies beyond one of the planes where it does beyond one of those from a place on
-module _ (sides : List HalfSpace) (part : GridBox) where
-  abbrev pub ShutFrom : ℕ → Type 0
-  ShutFrom i = IsShutOut (plane_values (drop i sides)) part ↔ IsShutOut (plane_values sides) part
+-- and of one of them
+module _ {X Y : Type 0} (f : X → Y) (P : Y → Type 0) (xs : List X) where
+  abbrev pub OneFrom : ℕ → Type 0
+  OneFrom i = IsSoOfOne P (map f (drop i xs)) ↔ IsSoOfOne P (map f xs)
 
-  shut_later : (s : HalfSpace) (more : List HalfSpace) → (LiesBeyond part (plane_value s) → ⊥)
-      → IsShutOut (plane_values (s ∷ more)) part → IsShutOut (plane_values more) part
-  shut_later s more not (inl here) = absurd (not here)
-  shut_later s more not (inr later) = later
+  one_later : (x : X) (more : List X) → (P (f x) → ⊥) → IsSoOfOne P (map f (x ∷ more))
+      → IsSoOfOne P (map f more)
+  one_later x more not (inl here) = absurd (not here)
+  one_later x more not (inr later) = later
 
-  pub shut_next : (i : ℕ) (s : HalfSpace) → i < length sides → s ≡ get_or sides i s
-      → (LiesBeyond part (plane_value s) → ⊥) → ShutFrom i → ShutFrom (i + 1)
-  shut_next i s within is not from =
-      let next = next_item sides i s within is in
-      (λ rest. from.0 (rw next (inr rest)), λ all. shut_later s (drop (i + 1) sides) not (rw next at (from.1 all)))
+  pub one_next : (i : ℕ) (x : X) → i < length xs → x ≡ get_or xs i x → (P (f x) → ⊥) → OneFrom i
+      → OneFrom (i + 1)
+  one_next i x within is not from =
+      let next = next_item xs i x within is in
+      (λ rest. from.0 (rw next (inr rest)), λ all. one_later x (drop (i + 1) xs) not (rw next at (from.1 all)))
 
-  pub shut_here : (i : ℕ) (s : HalfSpace) → i < length sides → s ≡ get_or sides i s
-      → LiesBeyond part (plane_value s) → ShutFrom i → IsShutOut (plane_values sides) part
-  shut_here i s within is beyond from = from.0 (rw (next_item sides i s within is) (inl beyond))
+  pub one_here : (i : ℕ) (x : X) → i < length xs → x ≡ get_or xs i x → P (f x) → OneFrom i
+      → IsSoOfOne P (map f xs)
+  one_here i x within is holds from = from.0 (rw (next_item xs i x within is) (inl holds))
 
-  pub shut_none : (i : ℕ) → length sides ≤ i → ShutFrom i → IsShutOut (plane_values sides) part → ⊥
-  shut_none i ended from all = absurd (rw (no_item sides i ended) at (from.1 all))
+  pub one_none : (i : ℕ) → length xs ≤ i → OneFrom i → IsSoOfOne P (map f xs) → ⊥
+  one_none i ended from all = absurd (rw (no_item xs i ended) at (from.1 all))
 
 -- the boxes up to a place
 pub boxes_more : (boxes : List Box3) (i : ℕ) (b : Box3) → i < length boxes → b ≡ get_or boxes i b

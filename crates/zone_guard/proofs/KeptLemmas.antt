@@ -1,4 +1,5 @@
--- What holds of all kept boxes holds at each point that one of them keeps.
+-- What holds of what bounds leave of all kept boxes holds at each point within the bounds that one of
+-- the boxes keeps.
 use Rattle.std.proofs.Common.{◌≡◌, Bool, true, false, List, [], ◌∷◌, inl, inr, refl}
 use Rattle.std.specs.Prelude.{ℤ, Option, None, Some}
 use Rattle.grid_model.specs.Boxes.{GridBox, box_holds}
@@ -6,13 +7,14 @@ use Rattle.grid_model.specs.declared.boxes.Pos.{Pos}
 use Rattle.sat_model.specs.Cover.{SomeKeeps, is_kept}
 use Rattle.sat_model.specs.Fold.{ShownStep}
 use Rattle.paving_log.specs.CoverBoxes.{kept_parts}
-use Rattle.zone_guard.specs.Answers.{AreParts}
+use Rattle.zone_guard.specs.Answers.{AreApart, AreParts, IsApartWithin, IsOutOf, faces}
+use Rattle.zone_guard.specs.Beyond.{IsSoOfOne}
 use Rattle.zone_guard.specs.Findings.{IsReached}
 use Rattle.zone_guard.specs.Planes.{PlaneValue, IsInPrism, dot}
 use Rattle.zone_guard.specs.PrismAnswers.{AreShutOut, AreEnclosed}
 use Rattle.zone_guard.specs.Reaches.{AreHolding, IsReach}
 use Rattle.zone_guard.specs.declared.planes.Extent.{Extent}
-use Rattle.zone_guard.proofs.PrismLemmas.{out_point, in_point}
+use Rattle.zone_guard.proofs.BeyondLemmas.{in_faces, in_point, no_less, out_point}
 use Rattle.sat_model.proofs.KeptLemmas.{kept_step}
 use Rattle.paving_log.proofs.KeptParts.{kept_here, kept_later}
 
@@ -28,23 +30,44 @@ holding [] p b some = absurd some
 holding (piece ∷ more) p b (inl here) = rw (kept_here piece more (kept_step piece.step b here.1)) (inl here.0)
 holding (piece ∷ more) p b (inr later) = holding_later piece more p (is_kept piece) refl (holding more p b later)
 
-pub none_holds : (sides : List PlaneValue) (boxes : List GridBox) (p : Pos) → AreShutOut sides boxes
-    → IsInPrism sides p → AreHolding boxes p → ⊥
-none_holds sides [] p out inside h = absurd h
-none_holds sides (c ∷ boxes) p out inside (inl here) = out_point sides c p out.0 here inside
-none_holds sides (c ∷ boxes) p out inside (inr later) = none_holds sides boxes p out.1 inside later
+not_beyond_some : (zone part : GridBox) (bounds : List PlaneValue) (p : Pos)
+    → IsSoOfOne (IsApartWithin zone part) bounds → box_holds part p ≡ true → IsInPrism bounds p
+    → box_holds zone p ≡ true → ⊥
+not_beyond_some zone part [] p some held within inside = absurd some
+not_beyond_some zone part (h ∷ bounds) p (inl one) held within inside = no_less _ _ within.0 (one p held inside)
+not_beyond_some zone part (h ∷ bounds) p (inr later) held within inside = not_beyond_some zone part bounds p later held within.1 inside
 
-pub in_zone : (zone : GridBox) (boxes : List GridBox) (p : Pos) → AreParts zone boxes
-    → AreHolding boxes p → box_holds zone p ≡ true
-in_zone zone [] p all h = absurd h
-in_zone zone (c ∷ boxes) p all (inl here) = all.0 p here
-in_zone zone (c ∷ boxes) p all (inr later) = in_zone zone boxes p all.1 later
+not_in_zone : (zone part : GridBox) (bounds : List PlaneValue) (p : Pos) → IsOutOf bounds zone part
+    → box_holds part p ≡ true → IsInPrism bounds p → box_holds zone p ≡ true → ⊥
+not_in_zone zone part bounds p (inl apart) held within inside = apart p held inside
+not_in_zone zone part bounds p (inr some) held within inside = not_beyond_some zone part bounds p some held within inside
 
-pub in_prism : (sides : List PlaneValue) (boxes : List GridBox) (p : Pos) → AreEnclosed sides boxes
-    → AreHolding boxes p → IsInPrism sides p
-in_prism sides [] p all h = absurd h
-in_prism sides (c ∷ boxes) p all (inl here) = in_point sides c p all.0 here
-in_prism sides (c ∷ boxes) p all (inr later) = in_prism sides boxes p all.1 later
+module _ (bounds : List PlaneValue) (p : Pos) (within : IsInPrism bounds p) where
+  -- ---- a prism
+
+  pub none_holds : (sides : List PlaneValue) (boxes : List GridBox) → AreShutOut bounds sides boxes
+      → IsInPrism sides p → AreHolding boxes p → ⊥
+  none_holds sides [] out inside h = absurd h
+  none_holds sides (c ∷ boxes) out inside (inl here) = out_point bounds sides c p out.0 here within inside
+  none_holds sides (c ∷ boxes) out inside (inr later) = none_holds sides boxes out.1 inside later
+
+  pub in_prism : (sides : List PlaneValue) (boxes : List GridBox) → AreEnclosed bounds sides boxes
+      → AreHolding boxes p → IsInPrism sides p
+  in_prism sides [] all h = absurd h
+  in_prism sides (c ∷ boxes) all (inl here) = in_point bounds sides c p all.0 here within
+  in_prism sides (c ∷ boxes) all (inr later) = in_prism sides boxes all.1 later
+
+  -- ---- a zone that is a box
+
+  pub in_zone : (zone : GridBox) (boxes : List GridBox) → AreParts bounds zone boxes
+      → AreHolding boxes p → box_holds zone p ≡ true
+  in_zone zone boxes all h = in_faces zone p (in_prism (faces zone) boxes all h)
+
+  pub none_in_zone : (zone : GridBox) (boxes : List GridBox) → AreApart bounds zone boxes
+      → box_holds zone p ≡ true → AreHolding boxes p → ⊥
+  none_in_zone zone [] apart inside h = absurd h
+  none_in_zone zone (c ∷ boxes) apart inside (inl here) = not_in_zone zone c bounds p apart.0 here within inside
+  none_in_zone zone (c ∷ boxes) apart inside (inr later) = none_in_zone zone boxes apart.1 inside later
 
 none_held : (boxes : List GridBox) (p : Pos) → boxes ≡ [] → AreHolding boxes p → ⊥
 none_held [] p e h = absurd h

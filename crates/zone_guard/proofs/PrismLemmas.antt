@@ -1,52 +1,16 @@
--- Boxes that lie outside a prism, or in it, and how far boxes reach.
-use Rattle.std.proofs.Common.{◌≡◌, ◌⊎◌, arith, true, List, [], ◌∷◌, ◌++◌, map, inl, inr, refl, subst, append-nil}
-use Rattle.std.specs.Prelude.{ℤ, ◌≤ℤ◌, ◌<ℤ◌, Option, None, Some}
+-- How far boxes reach.
+use Rattle.std.proofs.Common.{◌≡◌, ◌⊎◌, arith, true, List, [], ◌∷◌, ◌++◌, inl, inr, refl, subst, append-nil}
+use Rattle.std.specs.Prelude.{ℤ, ◌≤ℤ◌, Option, None, Some}
 use Rattle.std.specs.Int.{int_max, int_min}
 use Rattle.std.proofs.lemmas.Int.{ints, clamps, by_lt_z}
 use Rattle.grid_model.specs.Boxes.{GridBox, grid_box, box_holds}
 use Rattle.grid_model.specs.declared.boxes.Box3.{Box3}
 use Rattle.grid_model.specs.declared.boxes.Pos.{Pos}
 use Rattle.zone_guard.specs.Corners.{grown}
-use Rattle.zone_guard.specs.Planes.{PlaneValue, IsInPrism}
-use Rattle.zone_guard.specs.PrismAnswers.{IsShutOut, IsEnclosed, AreShutOut, AreInPrism}
 use Rattle.zone_guard.specs.Reaches.{AreHolding, IsProductIn, IsExtent, IsReach}
 use Rattle.zone_guard.specs.declared.planes.Extent.{Extent}
 use Rattle.zone_guard.specs.Totals.{both, joined}
-use Rattle.zone_guard.proofs.AnswerLemmas.{holds_from, low_in}
 use Rattle.zone_guard.proofs.CornerLemmas.{PointAt, least_le, le_greatest, least_point, greatest_point, min_left as min_is_left, min_right as min_is_right, max_left as max_is_left, max_right as max_is_right}
-
--- ---- points
-
-no_less : (n m : ℤ) → n ≤ℤ m → m <ℤ n → ⊥
-no_less n m h k = omega (arith, ints, h, k)
-
--- a point of a box beyond a plane isn't in the prism
-pub out_point : (sides : List PlaneValue) (part : GridBox) (p : Pos) → IsShutOut sides part
-    → box_holds part p ≡ true → IsInPrism sides p → ⊥
-out_point [] part p out held inside = absurd out
-out_point (s ∷ sides) part p (inl beyond) held inside = no_less _ _ inside.0 (beyond p held)
-out_point (s ∷ sides) part p (inr later) held inside = out_point sides part p later held inside.1
-
--- a point of a box behind each plane is
-pub in_point : (sides : List PlaneValue) (part : GridBox) (p : Pos) → IsEnclosed sides part
-    → box_holds part p ≡ true → IsInPrism sides p
-in_point [] part p all held = tt
-in_point (s ∷ sides) part p all held = (all.0 p held, in_point sides part p all.1 held)
-
--- ---- boxes
-
--- boxes that aren't all outside are some
-pub some_boxes : (sides : List PlaneValue) (boxes : List GridBox) → (AreShutOut sides boxes → ⊥)
-    → boxes ≡ [] → ⊥
-some_boxes sides boxes met none = met (rw none tt)
-
--- boxes outside a prism aren't in it, where there is one
-pub not_both : (sides : List PlaneValue) (boxes : List Box3) → AreShutOut sides (map grid_box boxes)
-    → AreInPrism sides (map grid_box boxes) → ⊥
-not_both sides [] out within = within.1 refl
-not_both sides (b ∷ boxes) out within =
-    let low = holds_from (grid_box b) b.lo (low_in b) in
-    out_point sides (grid_box b) b.lo out.0 low (in_point sides (grid_box b) b.lo within.0.0 low)
 
 -- ---- one box more
 

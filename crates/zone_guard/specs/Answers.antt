@@ -1,34 +1,46 @@
--- What the boxes that an epoch keeps say of a zone.
-use Rattle.std.specs.Prelude.{◌≡◌, ◌≢◌, true, List, []}
+-- What the boxes that an epoch keeps say of a zone that is a box, as far as they lie within bounds.
+use Rattle.std.specs.Prelude.{◌≡◌, ◌⊎◌, true, ℤ, pos, negsuc, neg_ℤ, ◌<ℤ◌, List, [], ◌∷◌}
 use Rattle.std.specs.List.{AllByRecursion}
 use Rattle.grid_model.specs.Boxes.{GridBox, box_holds}
 use Rattle.grid_model.specs.declared.boxes.Pos.{Pos}
+use Rattle.zone_guard.specs.Beyond.{IsSoOfOne}
+use Rattle.zone_guard.specs.Planes.{PlaneValue, dot}
+use Rattle.zone_guard.specs.PrismAnswers.{AreEnclosed, IsAnswerBy}
 use Rattle.zone_guard.specs.declared.zone.ZoneAnswer.{ZoneAnswer}
-use Rattle.zone_guard.specs.declared.zone.ZoneAnswer.TheVariants.{Outside, Inside, Open}
 
 -- they share no grid point
 abbrev pub IsApart : GridBox → GridBox → Type 0
 IsApart zone part = (p : Pos) → box_holds part p ≡ true → box_holds zone p ≡ true → ⊥
 
--- each grid point of the box lies in the zone
-abbrev pub IsPart : GridBox → GridBox → Type 0
-IsPart zone part = (p : Pos) → box_holds part p ≡ true → box_holds zone p ≡ true
+-- each grid point that they share lies beyond the bound
+abbrev pub IsApartWithin : GridBox → GridBox → PlaneValue → Type 0
+IsApartWithin zone part h = (p : Pos) → box_holds part p ≡ true → box_holds zone p ≡ true
+    → h.most <ℤ dot h.along p
 
--- no box shares a point with the zone
-abbrev pub AreApart : GridBox → List GridBox → Type 0
-AreApart zone boxes = AllByRecursion (IsApart zone) boxes
+-- what lies in the zone lies behind each of these six planes
+abbrev pub plane_on : (x y z most : ℤ) → PlaneValue
+plane_on x y z most = record { along = record { x = x; y = y; z = z }; most = most }
 
--- each box lies in the zone
-abbrev pub AreParts : GridBox → List GridBox → Type 0
-AreParts zone boxes = AllByRecursion (IsPart zone) boxes
+abbrev pub faces : GridBox → List PlaneValue
+faces zone =
+    plane_on (pos 1) (pos 0) (pos 0) zone.x.hi
+    ∷ plane_on (negsuc 0) (pos 0) (pos 0) (neg_ℤ zone.x.lo)
+    ∷ plane_on (pos 0) (pos 1) (pos 0) zone.y.hi
+    ∷ plane_on (pos 0) (negsuc 0) (pos 0) (neg_ℤ zone.y.lo)
+    ∷ plane_on (pos 0) (pos 0) (pos 1) zone.z.hi
+    ∷ plane_on (pos 0) (pos 0) (negsuc 0) (neg_ℤ zone.z.lo) ∷ []
 
--- and there is one
-abbrev pub AreWithin : GridBox → List GridBox → Type 0
-AreWithin zone boxes = AreParts zone boxes × (boxes ≢ [])
+module _ (bounds : List PlaneValue) (zone : GridBox) where
+  -- no point of what the bounds leave of the box lies in the zone
+  abbrev pub IsOutOf : GridBox → Type 0
+  IsOutOf part = IsApart zone part ⊎ IsSoOfOne (IsApartWithin zone part) bounds
 
--- the three answers, each exactly where it is so: the boxes of a log have points, so that no two of
--- them are right
-abbrev pub IsAnswer : GridBox → List GridBox → ZoneAnswer → Type 0
-IsAnswer zone boxes Outside = AreApart zone boxes × (AreWithin zone boxes → ⊥)
-IsAnswer zone boxes Inside = (AreApart zone boxes → ⊥) × AreWithin zone boxes
-IsAnswer zone boxes Open = (AreApart zone boxes → ⊥) × (AreWithin zone boxes → ⊥)
+  abbrev pub AreApart : List GridBox → Type 0
+  AreApart boxes = AllByRecursion IsOutOf boxes
+
+  -- what the bounds leave of each box lies behind each face
+  abbrev pub AreParts : List GridBox → Type 0
+  AreParts boxes = AreEnclosed bounds (faces zone) boxes
+
+  abbrev pub IsAnswer : List GridBox → ZoneAnswer → Type 0
+  IsAnswer boxes answer = IsAnswerBy (AreApart boxes) (AreParts boxes) answer

@@ -1,5 +1,6 @@
--- Boxes by the ends of their sides. No public clause cites it.
+-- Boxes that share a point, by the ends of their sides. No public clause cites it.
 use Rattle.std.specs.Prelude.{◌≤ℤ◌}
+use Rattle.std.specs.Int.{int_max, int_min}
 use Rattle.grid_model.specs.Boxes.{Side, GridBox}
 
 -- neither side lies behind the other
@@ -13,13 +14,13 @@ pub record AreMet (a b : GridBox) : Type 0 where
   pub y : SidesMeet a.y b.y
   pub z : SidesMeet a.z b.z
 
--- the first side lies in the second
-pub record SideLies (s t : Side) : Type 0 where
-  pub low : t.lo ≤ℤ s.lo
-  pub high : s.hi ≤ℤ t.hi
+-- what two boxes share
+abbrev pub shared_side : Side → Side → Side
+shared_side s t = record { lo = int_max s.lo t.lo; hi = int_min s.hi t.hi }
 
--- each side of the first lies in that of the second
-pub record LiesWithin (part zone : GridBox) : Type 0 where
-  pub x : SideLies part.x zone.x
-  pub y : SideLies part.y zone.y
-  pub z : SideLies part.z zone.z
+abbrev pub shared_box : GridBox → GridBox → GridBox
+shared_box a b = record {
+  x = shared_side a.x b.x;
+  y = shared_side a.y b.y;
+  z = shared_side a.z b.z;
+}

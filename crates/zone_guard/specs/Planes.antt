@@ -4,6 +4,7 @@ use Rattle.std.specs.List.{AllByRecursion}
 use Rattle.grid_model.specs.Boxes.{GridBox, box_holds}
 use Rattle.grid_model.specs.declared.boxes.Pos.{Pos}
 use Rattle.zone_guard.specs.declared.planes.HalfSpace.{HalfSpace}
+use Rattle.zone_guard.specs.declared.planes.Plane.{Plane}
 
 -- the product of a direction and a point: AX * x + AY * y + AZ * z
 abbrev pub dot : Pos → Pos → ℤ
@@ -17,20 +18,19 @@ pub record PlaneValue : Type 0 where
 abbrev pub plane_value : HalfSpace → PlaneValue
 plane_value s = record { along = s.along.vector; most = s.most }
 
+abbrev pub any_plane : Plane → PlaneValue
+any_plane s = record { along = s.along; most = s.most }
+
 abbrev pub plane_values : List HalfSpace → List PlaneValue
 plane_values sides = map plane_value sides
 
 abbrev pub IsBehind : Pos → PlaneValue → Type 0
 IsBehind p s = dot s.along p ≤ℤ s.most
 
--- a point of the prism with these sides lies behind each of them
+-- a point of the prism with these sides, or within these bounds, lies behind each of them
 abbrev pub IsInPrism : List PlaneValue → Pos → Type 0
 IsInPrism sides p = AllByRecursion (IsBehind p) sides
 
--- each grid point of the box lies behind the plane
-abbrev pub LiesBehind : GridBox → PlaneValue → Type 0
-LiesBehind part s = (p : Pos) → box_holds part p ≡ true → dot s.along p ≤ℤ s.most
-
--- none does
+-- no grid point of the box lies behind the plane
 abbrev pub LiesBeyond : GridBox → PlaneValue → Type 0
 LiesBeyond part s = (p : Pos) → box_holds part p ≡ true → s.most <ℤ dot s.along p

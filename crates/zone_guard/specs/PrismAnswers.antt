@@ -1,35 +1,33 @@
--- What the boxes that an epoch keeps say of a prism.
-use Rattle.std.specs.Prelude.{◌≢◌, ◌⊎◌, List, [], ◌∷◌}
+-- What the boxes that an epoch keeps say of a prism, as far as they lie within bounds.
+use Rattle.std.specs.Prelude.{List}
 use Rattle.std.specs.List.{AllByRecursion}
 use Rattle.grid_model.specs.Boxes.{GridBox}
-use Rattle.zone_guard.specs.Planes.{PlaneValue, LiesBehind, LiesBeyond}
+use Rattle.zone_guard.specs.Beyond.{IsBeyond, IsSoOfOne, opposite}
+use Rattle.zone_guard.specs.Planes.{PlaneValue}
 use Rattle.zone_guard.specs.declared.zone.ZoneAnswer.{ZoneAnswer}
 use Rattle.zone_guard.specs.declared.zone.ZoneAnswer.TheVariants.{Outside, Inside, Open}
 
--- the whole box lies beyond one of the planes
-abbrev pub IsShutOut : List PlaneValue → GridBox → Type 0
-IsShutOut [] part = ⊥
-IsShutOut (s ∷ sides) part = LiesBeyond part s ⊎ IsShutOut sides part
+-- The three answers, each exactly where it is so. Where nothing fits, as where there is no box, both
+-- may be: then outside is said.
+abbrev pub IsAnswerBy : (AreOut AreIn : Type 0) → ZoneAnswer → Type 0
+IsAnswerBy AreOut AreIn Outside = AreOut
+IsAnswerBy AreOut AreIn Inside = (AreOut → ⊥) × AreIn
+IsAnswerBy AreOut AreIn Open = (AreOut → ⊥) × (AreIn → ⊥)
 
--- the whole box lies behind each plane
-abbrev pub IsEnclosed : List PlaneValue → GridBox → Type 0
-IsEnclosed sides part = AllByRecursion (LiesBehind part) sides
+module _ (bounds sides : List PlaneValue) where
+  -- what the bounds leave of the box lies beyond one of the planes
+  abbrev pub IsShutOut : GridBox → Type 0
+  IsShutOut part = IsSoOfOne (IsBeyond bounds part) sides
 
-abbrev pub AreShutOut : List PlaneValue → List GridBox → Type 0
-AreShutOut sides boxes = AllByRecursion (IsShutOut sides) boxes
+  -- it lies behind each plane
+  abbrev pub IsEnclosed : GridBox → Type 0
+  IsEnclosed part = AllByRecursion (λ s. IsBeyond bounds part (opposite s)) sides
 
-abbrev pub AreEnclosed : List PlaneValue → List GridBox → Type 0
-AreEnclosed sides boxes = AllByRecursion (IsEnclosed sides) boxes
+  abbrev pub AreShutOut : List GridBox → Type 0
+  AreShutOut boxes = AllByRecursion IsShutOut boxes
 
--- and there is one
-abbrev pub AreInPrism : List PlaneValue → List GridBox → Type 0
-AreInPrism sides boxes = AreEnclosed sides boxes × (boxes ≢ [])
+  abbrev pub AreEnclosed : List GridBox → Type 0
+  AreEnclosed boxes = AllByRecursion IsEnclosed boxes
 
--- the three answers, each exactly where it is so
-abbrev pub IsPrismAnswer : List PlaneValue → List GridBox → ZoneAnswer → Type 0
-IsPrismAnswer sides boxes Outside =
-    AreShutOut sides boxes × (AreInPrism sides boxes → ⊥)
-IsPrismAnswer sides boxes Inside =
-    (AreShutOut sides boxes → ⊥) × AreInPrism sides boxes
-IsPrismAnswer sides boxes Open =
-    (AreShutOut sides boxes → ⊥) × (AreInPrism sides boxes → ⊥)
+  abbrev pub IsPrismAnswer : List GridBox → ZoneAnswer → Type 0
+  IsPrismAnswer boxes answer = IsAnswerBy (AreShutOut boxes) (AreEnclosed boxes) answer

@@ -1,14 +1,23 @@
-//! Whether the boxes that an epoch keeps lie in a zone.
+//! Whether the boxes that an epoch keeps lie in a zone that is a box, as far as they lie within its
+//! bounds.
 
-ghost use Rattle.std.specs.Prelude.{◌↔◌, IsTrue, IfOk, map};
+ghost use Rattle.std.specs.Prelude.{◌≡◌, ◌↔◌, IsTrue, IfOk, map};
 ghost use Rattle.grid_model.specs.Boxes.{grid_box, side_at};
 ghost use Rattle.paving_log.specs.CoverBoxes.{BodyFolds, cover_of};
 ghost use Rattle.paving_log.specs.Values.{block_of};
-ghost use Rattle.zone_guard.specs.Answers.{AreApart, AreParts, IsAnswer};
-ghost use Rattle.zone_guard.specs.Ends.{SidesMeet, SideLies, AreMet, LiesWithin};
+ghost use Rattle.zone_guard.specs.Answers.{AreApart, IsAnswer, IsOutOf};
+ghost use Rattle.zone_guard.specs.Beyond.{IsSoOfOne};
+ghost use Rattle.zone_guard.specs.Bounds.{bounds_of};
+ghost use Rattle.zone_guard.specs.Ends.{SidesMeet, AreMet, shared_box};
+ghost use Rattle.zone_guard.specs.Planes.{LiesBeyond, plane_values};
 
+use crate::bounds::bounds_in;
+use crate::corners::lies_beyond;
+use crate::faces::faces;
+use crate::planes::HalfSpace;
+use crate::prisms::are_enclosed;
 use crate::zone::{Zone, ZoneAnswer};
-use grid_model::{Box3, NoMemory};
+use grid_model::{Box3, NoMemory, Pos};
 use paving_log::{LogEpoch, cover_boxes};
 use std::alloc::Global;
 
@@ -35,73 +44,83 @@ fn meets(part: &Box3, zone: &Box3) -> bool
     meets_on(part, zone, 0) && meets_on(part, zone, 1) && meets_on(part, zone, 2)
 }
 
-/// Whether the side of a box on an axis lies in that of the zone.
-fn lies_on(part: &Box3, zone: &Box3, axis: u8) -> bool
+/// The box of the grid points that two boxes share.
+fn shared(part: &Box3, zone: &Box3) -> Box3
+    requires { AreMet (grid_box part.now) (grid_box zone.now) }
+    ensures { grid_box result ≡ shared_box (grid_box part.now) (grid_box zone.now) }
+{
+    let lo = Pos {
+        x: part.lo.x.max(zone.lo.x),
+        y: part.lo.y.max(zone.lo.y),
+        z: part.lo.z.max(zone.lo.z),
+    };
+    let hi = Pos {
+        x: part.hi.x.min(zone.hi.x),
+        y: part.hi.y.min(zone.hi.y),
+        z: part.hi.z.min(zone.hi.z),
+    };
+    Box3 { lo, hi }
+}
+
+/// Whether the box lies beyond one of the bounds.
+fn is_past_some(bounds: &[HalfSpace], part: &Box3) -> bool
     ensures { IsTrue result
-        ↔ SideLies (side_at axis (grid_box part.now)) (side_at axis (grid_box zone.now)) }
+        ↔ IsSoOfOne (LiesBeyond (grid_box part.now)) (plane_values bounds.now) }
 {
-    let (low, high) = part.side(axis);
-    let (zone_low, zone_high) = zone.side(axis);
-    if zone_low > low {
-        return false;
+    for bound in bounds {
+        if lies_beyond(bound, part) {
+            return true;
+        }
     }
-    if high > zone_high {
-        return false;
-    }
-    true
+    false
 }
 
-/// Whether each grid point of the box lies in the zone.
-fn lies_in(part: &Box3, zone: &Box3) -> bool
-    ensures { IsTrue result ↔ LiesWithin (grid_box part.now) (grid_box zone.now) }
+/// Whether the bounds leave no grid point that the box shares with the zone.
+fn is_out_of(bounds: &[HalfSpace], zone: &Box3, part: &Box3) -> bool
+    ensures { IsTrue result
+        ↔ IsOutOf (plane_values bounds.now) (grid_box zone.now) (grid_box part.now) }
 {
-    lies_on(part, zone, 0) && lies_on(part, zone, 1) && lies_on(part, zone, 2)
+    if !meets(part, zone) {
+        return true;
+    }
+    is_past_some(bounds, &shared(part, zone))
 }
 
-/// Whether none of the boxes shares a grid point with the zone.
-fn are_apart(zone: &Box3, boxes: &[Box3]) -> bool
-    ensures { IsTrue result ↔ AreApart (grid_box zone.now) (map grid_box boxes.now) }
+/// Whether the bounds leave no grid point that one of the boxes shares with the zone.
+fn are_apart(bounds: &[HalfSpace], zone: &Box3, boxes: &[Box3]) -> bool
+    ensures { IsTrue result
+        ↔ AreApart (plane_values bounds.now) (grid_box zone.now) (map grid_box boxes.now) }
 {
     for part in boxes {
-        if meets(part, zone) {
+        if !is_out_of(bounds, zone, part) {
             return false;
         }
     }
     true
 }
 
-/// Whether each of the boxes lies in the zone.
-fn are_parts(zone: &Box3, boxes: &[Box3]) -> bool
-    ensures { IsTrue result ↔ AreParts (grid_box zone.now) (map grid_box boxes.now) }
+/// What these boxes within these bounds say of the zone.
+pub fn answer_of(bounds: &[HalfSpace], zone: &Box3, boxes: &[Box3]) -> ZoneAnswer
+    ensures { IsAnswer (plane_values bounds.now) (grid_box zone.now) (map grid_box boxes.now)
+        result }
 {
-    for part in boxes {
-        if !lies_in(part, zone) {
-            return false;
-        }
-    }
-    true
-}
-
-/// What these boxes say of the zone.
-pub fn answer_of(zone: &Box3, boxes: &[Box3]) -> ZoneAnswer
-    ensures { IsAnswer (grid_box zone.now) (map grid_box boxes.now) result }
-{
-    if are_apart(zone, boxes) {
+    if are_apart(bounds, zone, boxes) {
         ZoneAnswer::Outside
-    } else if are_parts(zone, boxes) {
+    } else if are_enclosed(bounds, &faces(zone), boxes) {
         ZoneAnswer::Inside
     } else {
         ZoneAnswer::Open
     }
 }
 
-/// What the boxes that the steps of an epoch close inside or at the edge say of the zone. The steps
-/// are to fold, as `cover_boxes` has it.
+/// What the boxes that the steps of an epoch close inside or at the edge, and its bounds, say of the
+/// zone. The steps are to fold, as `cover_boxes` has it.
 pub fn answer(alloc: Global, zone: &Zone, epoch: &LogEpoch) -> Result<ZoneAnswer, NoMemory>
     requires { BodyFolds (block_of epoch.now).body }
-    ensures { IfOk result (IsAnswer (grid_box zone.now.part)
-        (cover_of (block_of epoch.now).body)) }
+    ensures { IfOk result (IsAnswer (bounds_of (block_of epoch.now).body)
+        (grid_box zone.now.part) (cover_of (block_of epoch.now).body)) }
 {
+    let bounds = bounds_in(alloc, epoch)?;
     let boxes = cover_boxes(alloc, epoch)?;
-    Ok(answer_of(&zone.part, &boxes))
+    Ok(answer_of(&bounds, &zone.part, &boxes))
 }

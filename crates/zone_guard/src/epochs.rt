@@ -6,23 +6,31 @@ ghost use Rattle.grid_model.specs.Boxes.{grid_box};
 ghost use Rattle.paving_log.specs.CoverBoxes.{BodyFolds};
 ghost use Rattle.paving_log.specs.Values.{block_of, log_value};
 ghost use Rattle.zone_guard.specs.EpochsFound.{AreFindings, IsEpochFound, AreEpochsFound};
+ghost use Rattle.zone_guard.specs.Planes.{plane_values};
 ghost use Rattle.zone_guard.specs.WatchValues.{watch_values};
 
+use crate::bounds::bounds_in;
 use crate::findings::found_in;
 use crate::found::{EpochFindings, Finding};
+use crate::planes::HalfSpace;
 use crate::watch::Watch;
 use grid_model::{Box3, NoMemory};
 use paving_log::{Log, LogEpoch, cover_boxes};
 use std::alloc::Global;
 
-/// What these boxes say of each zone and direction.
-fn findings_in(alloc: Global, watches: &[Watch], boxes: &[Box3]) -> Result<Vec<Finding>, NoMemory>
-    ensures { IfOk result (λ found. AreFindings (watch_values watches.now)
-        (map grid_box boxes.now) found.items) }
+/// What these boxes within these bounds say of each zone and direction.
+fn findings_in(
+    alloc: Global,
+    watches: &[Watch],
+    bounds: &[HalfSpace],
+    boxes: &[Box3],
+) -> Result<Vec<Finding>, NoMemory>
+    ensures { IfOk result (λ found. AreFindings (plane_values bounds.now) (map grid_box boxes.now)
+        (watch_values watches.now) found.items) }
 {
     let mut found: Vec<Finding> = Vec::new(alloc);
     for watch in watches {
-        found.push(found_in(watch, boxes))?;
+        found.push(found_in(watch, bounds, boxes))?;
     }
     Ok(found)
 }
@@ -42,8 +50,9 @@ fn epoch_findings(
             found: None,
         });
     }
+    let bounds = bounds_in(alloc, epoch)?;
     let boxes = cover_boxes(alloc, epoch)?;
-    let found = findings_in(alloc, watches, &boxes)?;
+    let found = findings_in(alloc, watches, &bounds, &boxes)?;
     Ok(EpochFindings {
         index: epoch.index,
         found: Some(found),

@@ -13,26 +13,31 @@ ghost use Rattle.zone_guard.specs.PrismAnswers.{AreShutOut, AreEnclosed};
 ghost use Rattle.zone_guard.specs.Reaches.{IsReach};
 ghost use Rattle.zone_guard.specs.declared.planes.Extent.{Extent};
 
-/// The law: where the kept boxes are apart from a zone, none of them keeps a point of it with any
-/// clock offset. So where they cover what fits, nothing in the zone does. The call does nothing.
+/// The law: where the bounds leave nothing of the kept boxes in a zone, no point within the bounds
+/// that one of the boxes keeps with any clock offset lies in it. So where the boxes cover what fits,
+/// and the bounds hold it, nothing in the zone does. The call does nothing.
 pub fn outside_is_out()
-    ensures { (zone : GridBox) (parts : List ShownStep) (p : Pos) (b : ℤ)
-        → AreApart zone (kept_parts parts) → box_holds zone p ≡ true → SomeKeeps p b parts → ⊥ }
+    ensures { (bounds : List PlaneValue) (zone : GridBox) (parts : List ShownStep) (p : Pos)
+        (b : ℤ) → AreApart bounds zone (kept_parts parts) → box_holds zone p ≡ true
+        → SomeKeeps p b parts → IsInPrism bounds p → ⊥ }
 {}
 
-/// The same for a prism: where each kept box lies beyond one of its sides, none of them keeps a
-/// point of it.
+/// The same for a prism.
 pub fn prism_outside_is_out()
-    ensures { (sides : List PlaneValue) (parts : List ShownStep) (p : Pos) (b : ℤ)
-        → AreShutOut sides (kept_parts parts) → IsInPrism sides p → SomeKeeps p b parts → ⊥ }
+    ensures { (bounds sides : List PlaneValue) (parts : List ShownStep) (p : Pos) (b : ℤ)
+        → AreShutOut bounds sides (kept_parts parts) → IsInPrism sides p → SomeKeeps p b parts
+        → IsInPrism bounds p → ⊥ }
 {}
 
-/// The law: where each kept box lies in a zone, each point that one of them keeps does.
+/// The law: where what the bounds leave of each kept box lies in a zone, each point within the bounds
+/// that one of the boxes keeps does.
 pub fn inside_is_in()
-    ensures zone { (zone : GridBox) (parts : List ShownStep) (p : Pos) (b : ℤ)
-        → AreParts zone (kept_parts parts) → SomeKeeps p b parts → box_holds zone p ≡ true }
-    ensures prism { (sides : List PlaneValue) (parts : List ShownStep) (p : Pos) (b : ℤ)
-        → AreEnclosed sides (kept_parts parts) → SomeKeeps p b parts → IsInPrism sides p }
+    ensures zone { (bounds : List PlaneValue) (zone : GridBox) (parts : List ShownStep) (p : Pos)
+        (b : ℤ) → AreParts bounds zone (kept_parts parts) → SomeKeeps p b parts
+        → IsInPrism bounds p → box_holds zone p ≡ true }
+    ensures prism { (bounds sides : List PlaneValue) (parts : List ShownStep) (p : Pos) (b : ℤ)
+        → AreEnclosed bounds sides (kept_parts parts) → SomeKeeps p b parts
+        → IsInPrism bounds p → IsInPrism sides p }
 {}
 
 /// The law: the product of a direction and a point that a kept box keeps lies between the ends of

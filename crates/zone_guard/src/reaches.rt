@@ -13,8 +13,8 @@ use grid_model::Box3;
 fn with_box(found: &Option<Extent>, along: &Direction, part: &Box3) -> Extent
     ensures { result ≡ grown found.now along.now.vector (grid_box part.now) }
 {
-    let low = least(along, part);
-    let high = greatest(along, part);
+    let low = least(&along.vector, part);
+    let high = greatest(&along.vector, part);
     match found {
         None => Extent {
             least: low,

@@ -177,10 +177,9 @@ def counts(folder: Path, options: Options) -> str:
 
 
 def answers(folder: Path) -> list[str]:
-    """What the log's boxes say of the zones, by `gpslog answers`."""
+    """What the log's boxes and bounds say of the zones, by `gpslog answers`."""
     second, things = read_zones(folder / ZONES["zones"])
-    log = ((epoch.index, None if epoch.few else epoch.boxes) for epoch in epochs(folder / FILES["log"]))
-    return list(zones.lines(second, things, log))
+    return list(zones.lines(second, things, zones.kept(epochs(folder / FILES["log"]))))
 
 
 def guard_words(folder: Path, program: str, options: Options) -> list[str]:

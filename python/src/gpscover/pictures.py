@@ -502,7 +502,8 @@ class Fenced:
         boxes = epoch.boxes
         if boxes and self.frame is None:
             self.frame = Frame.at(region_of(epoch).middle())
-        self.answers.append([fence.answer(boxes) for fence in self.fences])
+        bounds = [(bound.direction, bound.most) for bound in epoch.bounds]
+        self.answers.append([fence.answer(boxes, bounds) for fence in self.fences])
         self.rings.append(ring_above(self.frame, boxes) if boxes and self.frame else None)
         if place is not None and self.frame is not None:
             self.known.append(self.frame.offset(place)[:2])

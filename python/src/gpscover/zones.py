@@ -8,7 +8,8 @@ INDEX few`, or a line for each zone and direction: `epoch INDEX zone NAME outsid
 `epoch INDEX reach NAME LO HI` or `.. none`. A zone is outside where each box that the epoch keeps
 lies apart from it, and a prism where each lies beyond one of its sides; inside where there is a box
 and each lies in it. Behind the epochs of the second form stand `zone NAME outside A inside B open C
-few D` and `reach NAME LO HI` over all of them.
+few D` and `reach NAME LO HI` over all of them. Where the log has bounds, a zone's answer is that of what
+each of them leaves of each box.
 
 These are the lines of `gpscover guard`. But the log is read as it stands here: whether it is right
 `guard` asks first, and nothing that is printed here means more than that. Exit status: 0; 1 where a
@@ -25,11 +26,12 @@ from dataclasses import dataclass
 
 from gpscover.command import Command
 from gpscover.errors import Error
-from gpscover.log import Box, PathLike, epochs
+from gpscover.log import Box, Epoch, PathLike, epochs
 
 Whole = tuple[int, int, int]
 Side = tuple[Whole, int]  # (A, H)
 Ends = tuple[int, int]
+Kept = tuple[int, list[Box] | None, list[Side]]
 
 HEADS = "gpszones 1", "gpszones 2"
 ANSWERS = "outside", "inside", "open"
@@ -50,12 +52,23 @@ class Corners:
     low: Whole
     high: Whole
 
-    def answer(self, boxes: Sequence[Box]) -> str:
-        """What boxes (low corner and high corner) say of it."""
-        low, high = self.low, self.high
-        apart = [any(b[k] > high[k] or b[k + 3] < low[k] for k in range(3)) for b in boxes]
-        within = [all(low[k] <= b[k] and b[k + 3] <= high[k] for k in range(3)) for b in boxes]
-        return word(apart, within)
+    def faces(self) -> list[Side]:
+        """The planes behind which it lies."""
+        x, y, z = self.high
+        u, v, w = self.low
+        return [((1, 0, 0), x), ((-1, 0, 0), -u), ((0, 1, 0), y), ((0, -1, 0), -v), ((0, 0, 1), z), ((0, 0, -1), -w)]
+
+    def is_apart(self, box: Sequence[int], bounds: Sequence[Side]) -> bool:
+        """Whether the bounds leave no grid point that a box shares with it."""
+        low = [max(a, b) for a, b in zip(box[:3], self.low)]
+        high = [min(a, b) for a, b in zip(box[3:6], self.high)]
+        return any(a > b for a, b in zip(low, high)) or any(is_past(bound, [*low, *high]) for bound in bounds)
+
+    def answer(self, boxes: Sequence[Box], bounds: Sequence[Side] = ()) -> str:
+        """What boxes (low corner and high corner) say of it, as far as they lie within bounds."""
+        if all(self.is_apart(box, bounds) for box in boxes):
+            return "outside"
+        return "inside" if are_behind(self.faces(), boxes, bounds) else "open"
 
 
 @dataclass
@@ -65,12 +78,11 @@ class Prism:
     name: str
     sides: list[Side]
 
-    def answer(self, boxes: Sequence[Box]) -> str:
-        """What boxes say of it."""
-        ends = [[span(a, box) for a, _ in self.sides] for box in boxes]
-        beyond = [any(low > most for (low, _), (_, most) in zip(of, self.sides)) for of in ends]
-        behind = [all(high <= most for (_, high), (_, most) in zip(of, self.sides)) for of in ends]
-        return word(beyond, behind)
+    def answer(self, boxes: Sequence[Box], bounds: Sequence[Side] = ()) -> str:
+        """What boxes say of it, as far as they lie within bounds."""
+        if all(any(is_beyond(side, box, bounds) for side in self.sides) for box in boxes):
+            return "outside"
+        return "inside" if are_behind(self.sides, boxes, bounds) else "open"
 
 
 @dataclass
@@ -90,15 +102,51 @@ Zone = Corners | Prism
 Thing = Corners | Prism | Reach
 
 
-def word(outside: list[bool], inside: list[bool]) -> str:
-    """The answer by what each box says."""
-    return "outside" if all(outside) else "inside" if all(inside) else "open"
-
-
 def span(a: Whole, box: Sequence[int]) -> Ends:
     """The least and the greatest product of a vector and a corner of a box."""
     pairs = [(a[k] * box[k], a[k] * box[k + 3]) for k in range(3)]
     return sum(min(pair) for pair in pairs), sum(max(pair) for pair in pairs)
+
+
+# ---- what bounds leave of a box
+
+
+def is_past(side: Side, box: Sequence[int]) -> bool:
+    """Whether the whole box lies beyond a plane."""
+    a, most = side
+    return span(a, box)[0] > most
+
+
+def opposite(side: Side) -> Side:
+    """The plane behind which those grid points lie that lie beyond another."""
+    (x, y, z), most = side
+    return (-x, -y, -z), -most - 1
+
+
+def sum_by(side: Side, bound: Side, axis: int) -> Side:
+    """The sum of a side and a bound, each times the amount of what the other has on an axis. Where these differ in sign,
+    the sum has nothing there."""
+    (a, most), (b, end) = side, bound
+    n, k = abs(b[axis]), abs(a[axis])
+    x, y, z = (n * u + k * v for u, v in zip(a, b))
+    return (x, y, z), n * most + k * end
+
+
+def is_beyond(side: Side, box: Sequence[int], bounds: Sequence[Side]) -> bool:
+    """Whether the whole box lies beyond a plane, or one of the bounds leaves no point of it behind that.
+
+    The least of A p over the points p of a box with D p <= M is that of A p + t (D p - M) over the whole box with the t >= 0
+    for which it is greatest. As it is a sum of three lines with a bend each, that t is one at which A + t D has nothing along
+    an axis, or 0, or there is no such point and any large t shows it.
+    """
+    return is_past(side, box) or any(
+        is_past(bound, box) or any(is_past(sum_by(side, bound, axis), box) for axis in range(3)) for bound in bounds
+    )
+
+
+def are_behind(sides: Sequence[Side], boxes: Sequence[Box], bounds: Sequence[Side]) -> bool:
+    """Whether each box lies behind each of these planes, as far as it lies within bounds."""
+    return all(is_beyond(opposite(side), box, bounds) for box in boxes for side in sides)
 
 
 # ---- the file
@@ -218,15 +266,15 @@ class Answers:
         self.counts: dict[str, Counter[str]] = {thing.name: Counter() for thing in things}
         self.reaches: dict[str, Ends | None] = {}
 
-    def of_epoch(self, boxes: Sequence[Box]) -> Iterator[str]:
-        """What an epoch's boxes say, a line each."""
+    def of_epoch(self, boxes: Sequence[Box], bounds: Sequence[Side]) -> Iterator[str]:
+        """What an epoch's boxes and bounds say, a line each."""
         for thing in self.things:
             if isinstance(thing, Reach):
                 ends = thing.ends(boxes)
                 self.reaches[thing.name] = wider(self.reaches.get(thing.name), ends)
                 yield f"reach {thing.name} {told(ends)}"
             else:
-                answer = thing.answer(boxes)
+                answer = thing.answer(boxes, bounds)
                 self.counts[thing.name][answer] += 1
                 yield f"zone {thing.name} {answer}"
 
@@ -241,18 +289,24 @@ class Answers:
                 yield f"zone {thing.name} {counts} few {self.few}"
 
 
-def lines(second: bool, things: list[Thing], log: Iterable[tuple[int, list[Box] | None]]) -> Iterator[str]:
-    """The lines of a log's epochs (index, boxes), and behind them those of all.
+def kept(log: Iterable[Epoch]) -> Iterator[Kept]:
+    """The number of each epoch, its boxes, and its bounds as sides."""
+    for epoch in log:
+        yield epoch.index, None if epoch.few else epoch.boxes, [(b.direction, b.most) for b in epoch.bounds]
+
+
+def lines(second: bool, things: list[Thing], log: Iterable[Kept]) -> Iterator[str]:
+    """The lines of a log's epochs (index, boxes, bounds), and behind them those of all.
 
     The boxes are None in an epoch of few satellites.
     """
     answers = Answers(things)
-    for index, boxes in log:
+    for index, boxes, bounds in log:
         if boxes is None:
             answers.few += 1
             yield f"epoch {index} few"
         else:
-            yield from (f"epoch {index} {said}" for said in answers.of_epoch(boxes))
+            yield from (f"epoch {index} {said}" for said in answers.of_epoch(boxes, bounds))
     if second:
         yield from answers.of_all()
 
@@ -266,8 +320,7 @@ def arguments(parser: argparse.ArgumentParser) -> None:
 def run(args: argparse.Namespace) -> int:
     """Prints the answers. The status."""
     second, things = read_zones(args.zones)
-    log = ((epoch.index, None if epoch.few else epoch.boxes) for epoch in epochs(args.log))
-    for line in lines(second, things, log):
+    for line in lines(second, things, kept(epochs(args.log))):
         print(line)
     return 0
 

@@ -3,8 +3,11 @@ use Rattle.std.specs.Prelude.{ℤ, ◌≤ℤ◌, ◌<ℤ◌}
 use Rattle.std.specs.Int.{w128}
 use Rattle.std.proofs.lemmas.Int.{ints, to_z-of_z}
 use Rattle.zone_guard.specs.Planes.{plane_value}
-use Rattle.zone_guard.proofs.CornerLemmas.{beyond, not_beyond}
+use Rattle.zone_guard.proofs.CornerLemmas.{beyond, not_beyond, wide_direction}
 use Rattle.zone_guard.proofs.corners.lies_beyond.Goals as goal
+
+pub least-requires : goal.least-requires
+least-requires c = wide_direction c.args.side.now.along.vector c.args.side.now.along.within
 
 pub returns-then-least-side : goal.returns-then-least-side
 returns-then-least-side c =

@@ -11,7 +11,7 @@ overflow_mul-result c =
     let g : FitsSigned w64 c.args.end = c.ranges.end in
     let a = simp to_z-of_z at c.from.ensures in
     let b = simp to_z-of_z at c.from-2.ensures in
-    let w = product_within 1048576 10000000000000 c.args.factor c.args.end c.requires.factor c.requires.end in
+    let w = product_within 2199023255552 10000000000000 c.args.factor c.args.end c.requires.factor c.requires.end in
     let h : FitsSigned w128 c.from.result = search rules in
     let i : FitsSigned w128 c.from-2.result = search rules in
     simp to_z-of_z (rw (a, b) (omega (arith, ints, w.low, w.high)))
@@ -30,4 +30,4 @@ returns-clause-bound c =
     let g : FitsSigned w64 c.args.end = c.ranges.end in
     let a = simp to_z-of_z at c.from.ensures in
     let b = simp to_z-of_z at c.from-2.ensures in
-    rw (a, b, uncast_product c.args.factor c.args.end c.requires.factor c.requires.end) (product_within 1048576 10000000000000 c.args.factor c.args.end c.requires.factor c.requires.end)
+    rw (a, b, uncast_product c.args.factor c.args.end c.requires.factor c.requires.end) (product_within 2199023255552 10000000000000 c.args.factor c.args.end c.requires.factor c.requires.end)

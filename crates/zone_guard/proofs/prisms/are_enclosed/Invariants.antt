@@ -5,4 +5,4 @@ use Rattle.zone_guard.proofs.EachLemmas.{EachFrom}
 use Rattle.zone_guard.proofs.prisms.are_enclosed.Given as goal
 
 abbrev pub invariant-loop-part : goal.invariant-loop-part
-invariant-loop-part l = EachFrom grid_box (IsEnclosed (plane_values l.sides)) l.boxes l.part-index
+invariant-loop-part l = EachFrom grid_box (IsEnclosed (plane_values l.bounds) (plane_values l.sides)) l.boxes l.part-index

@@ -7,18 +7,18 @@ use Rattle.zone_guard.proofs.EachLemmas.{each_next, each_not, each_held}
 use Rattle.zone_guard.proofs.prisms.are_shut_out.Goals as goal
 
 pub loop-part-preserved : goal.loop-part-preserved
-loop-part-preserved c = each_next grid_box (IsShutOut (plane_values c.args.sides.now)) c.args.boxes.now c.loop-part.part-index c.part-item.result c.loop-part-test.true c.part-item.is
+loop-part-preserved c = each_next grid_box (IsShutOut (plane_values c.args.bounds.now) (plane_values c.args.sides.now)) c.args.boxes.now c.loop-part.part-index c.part-item.result c.loop-part-test.true c.part-item.is
     (c.is_shut_out.ensures.0 c.if-not-is_shut_out.false) c.loop-part.invariant
 
 pub returns-then-not-is_shut_out : goal.returns-then-not-is_shut_out
 returns-then-not-is_shut_out c = (
   λ h. absurd cc,
-  λ all. absurd (each_not grid_box (IsShutOut (plane_values c.args.sides.now)) c.args.boxes.now c.loop-part.part-index c.part-item.result c.loop-part-test.true c.part-item.is
-      (λ part. false≢true (sym c.if-not-is_shut_out.true ∙ c.is_shut_out.ensures.1 part)) c.loop-part.invariant all),
+  λ all. absurd (each_not grid_box (IsShutOut (plane_values c.args.bounds.now) (plane_values c.args.sides.now)) c.args.boxes.now c.loop-part.part-index c.part-item.result c.loop-part-test.true c.part-item.is
+      (λ so. false≢true (sym c.if-not-is_shut_out.true ∙ c.is_shut_out.ensures.1 so)) c.loop-part.invariant all),
 )
 
 pub returns : goal.returns
 returns c = (
-  λ h. each_held grid_box (IsShutOut (plane_values c.args.sides.now)) c.args.boxes.now c.loop-part.part-index c.loop-part-test.false c.loop-part.invariant,
+  λ h. each_held grid_box (IsShutOut (plane_values c.args.bounds.now) (plane_values c.args.sides.now)) c.args.boxes.now c.loop-part.part-index c.loop-part-test.false c.loop-part.invariant,
   λ all. refl,
 )

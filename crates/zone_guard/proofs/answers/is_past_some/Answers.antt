@@ -1,0 +1,23 @@
+use Rattle.std.proofs.Common.{refl, sym, ◌∙◌}
+use Rattle.std.proofs.lemmas.Bool.{false≢true}
+use Rattle.grid_model.specs.Boxes.{grid_box}
+use Rattle.zone_guard.specs.Planes.{LiesBeyond, plane_value}
+use Rattle.zone_guard.proofs.EachLemmas.{one_next, one_here, one_none}
+use Rattle.zone_guard.proofs.answers.is_past_some.Goals as goal
+
+pub loop-bound-preserved : goal.loop-bound-preserved
+loop-bound-preserved c = one_next plane_value (LiesBeyond (grid_box c.args.part.now)) c.args.bounds.now c.loop-bound.bound-index c.bound-item.result c.loop-bound-test.true c.bound-item.is
+    (λ so. false≢true (sym c.if-lies_beyond.false ∙ c.lies_beyond.ensures.1 so)) c.loop-bound.invariant
+
+pub returns-then-lies_beyond : goal.returns-then-lies_beyond
+returns-then-lies_beyond c = (
+  λ h. one_here plane_value (LiesBeyond (grid_box c.args.part.now)) c.args.bounds.now c.loop-bound.bound-index c.bound-item.result c.loop-bound-test.true c.bound-item.is
+      (c.lies_beyond.ensures.0 c.if-lies_beyond.true) c.loop-bound.invariant,
+  λ all. refl,
+)
+
+pub returns : goal.returns
+returns c = (
+  λ h. absurd cc,
+  λ all. absurd (one_none plane_value (LiesBeyond (grid_box c.args.part.now)) c.args.bounds.now c.loop-bound.bound-index c.loop-bound-test.false c.loop-bound.invariant all),
+)
