@@ -1,10 +1,11 @@
 -- What `guard` tells of an accepted log.
 use Rattle.std.proofs.Common.{◌≡◌, ℕ, suc, ◌+◌, ◌<◌, ◌≤◌, ◌^◌, Bool, true, false, List, [], ◌∷◌, length, Option, None, Some, refl, ap, subst, arith, Vec, Global}
-use Rattle.std.specs.Prelude.{ℤ, is_none}
+use Rattle.std.specs.Prelude.{ℤ, ◌+ℤ◌, ◌*ℤ◌, ◌≤ℤ◌, is_none}
 use Rattle.std.specs.List.{AllByRecursion}
+use Rattle.std.proofs.lemmas.Int.{ints}
 use Rattle.epoch_selection.specs.Searches.{Search}
 use Rattle.epoch_selection.specs.declared.selection.Selection.{Selection}
-use Rattle.grid_model.specs.Boxes.{GridBox}
+use Rattle.grid_model.specs.Boxes.{GridBox, box_holds}
 use Rattle.grid_model.specs.declared.boxes.Pos.{Pos}
 use Rattle.gnss_model.specs.declared.delays.Delays.{Delays}
 use Rattle.input_files.specs.declared.inputs.Inputs.{Inputs}
@@ -15,11 +16,12 @@ use Rattle.paving_log_check.specs.Admissible.{AdmitsFrom}
 use Rattle.paving_log_check.specs.Answers.{IfNo, IfYes}
 use Rattle.paving_log_check.specs.Checked.{IsAccepted}
 use Rattle.paving_log_check.specs.Epochs.{BodyPassesAt}
-use Rattle.paving_log_check.specs.FileCover.{BlocksFitCover, FitBodyCover, FitCover}
+use Rattle.paving_log_check.specs.FileCover.{AreFitBounds, BlocksFitCover, FitBodyCover, FitCover}
 use Rattle.paving_log_check.specs.OwnLines.{OwnLines}
 use Rattle.paving_log_check.specs.declared.verdict.Fault.{Fault}
 use Rattle.paving_log_check.specs.declared.verdict.Verdict.{Verdict}
 use Rattle.paving_log_check.specs.declared.verdict.Verdict.TheVariants as verdict
+use Rattle.sat_model.specs.Bounds.{BoundValue}
 use Rattle.sat_model.specs.Cover.{SomeKeeps}
 use Rattle.sat_model.specs.Fold.{ShownStep, pieces}
 use Rattle.sat_model.specs.Events.{steps_in}
@@ -29,10 +31,11 @@ use Rattle.sat_model.specs.declared.rules.Rules.{Rules}
 use Rattle.sat_rows.specs.Fitting.{FitsEpoch}
 use Rattle.sat_rows.specs.Meanings.{Meaning}
 use Rattle.paving_log_check.proofs.OnWayLemmas.{body_folds}
-use Rattle.zone_guard.proofs.AnswerLemmas.{none_kept}
-use Rattle.zone_guard.proofs.KeptLemmas.{holding, in_prism, in_zone, none_holds, reached}
+use Rattle.zone_guard.proofs.KeptLemmas.{holding, in_prism, in_zone, none_holds, none_in_zone, reached}
+use Rattle.zone_guard.specs.Bounds.{bound_planes, bounds_of}
 use Rattle.zone_guard.specs.EpochsFound.{AreEpochsFound, AreFindings, IsFoundIn}
 use Rattle.zone_guard.specs.Findings.{IsFinding, corner_box}
+use Rattle.zone_guard.specs.Planes.{IsInPrism, PlaneValue}
 use Rattle.zone_guard.specs.Watched.{BoxValue, FormValue, PrismValue, ReachValue, WatchValue}
 use Rattle.zone_guard.specs.WatchValues.{watch_values}
 use Rattle.zone_guard.specs.declared.found.EpochFindings.{EpochFindings}
@@ -71,17 +74,17 @@ accepted_fold m searches rules log boxes accepted =
 
 -- ---- how many answers there are
 
-as_many_found : (ws : List Watch) (boxes : List GridBox) (found : List Finding)
-    → AreFindings (watch_values ws) boxes found → length found ≡ length ws
-as_many_found [] boxes [] are = refl
-as_many_found [] boxes (f ∷ found) are = absurd are
-as_many_found (w ∷ ws) boxes [] are = absurd are
-as_many_found (w ∷ ws) boxes (f ∷ found) are = ap suc (as_many_found ws boxes found are.1)
+as_many_found : (bounds : List PlaneValue) (boxes : List GridBox) (ws : List Watch) (found : List Finding)
+    → AreFindings bounds boxes (watch_values ws) found → length found ≡ length ws
+as_many_found bounds boxes [] [] are = refl
+as_many_found bounds boxes [] (f ∷ found) are = absurd are
+as_many_found bounds boxes (w ∷ ws) [] are = absurd are
+as_many_found bounds boxes (w ∷ ws) (f ∷ found) are = ap suc (as_many_found bounds boxes ws found are.1)
 
 has_all : (ws : List Watch) (block : Block) (found : Option (Vec Finding Global))
     → IsFoundIn (watch_values ws) block found → HasAllOf (length ws) found
 has_all ws block None is = tt
-has_all ws block (Some found) is = as_many_found ws (cover_of block.body) found.items is.1
+has_all ws block (Some found) is = as_many_found (bounds_of block.body) (cover_of block.body) ws found.items is.1
 
 pub all_have_all : (ws : List Watch) (blocks : List Block) (epochs : List EpochFindings)
     → AreEpochsFound (watch_values ws) blocks epochs → AllByRecursion (HasAll (length ws)) epochs
@@ -108,36 +111,54 @@ few_epochs ws blocks epochs numbered are = omega (arith, as_many ws blocks epoch
 
 -- ---- the answers are true of what fits
 
-true_at : (form : FormValue) (f : Finding) (parts : List ShownStep) (p : Pos) (b : ℤ)
-    → IsFinding form (kept_parts parts) f → SomeKeeps p b parts → IsTrueAt form f p
-true_at (BoxValue lo hi) (Zone Outside) parts p b is keeps = λ holds. none_kept (corner_box lo hi) parts p b is.0 holds keeps
-true_at (BoxValue lo hi) (Zone Inside) parts p b is keeps = in_zone (corner_box lo hi) (kept_parts parts) p is.1.0 (holding parts p b keeps)
-true_at (BoxValue lo hi) (Zone Open) parts p b is keeps = tt
-true_at (BoxValue lo hi) (Reach found) parts p b is keeps = is
-true_at (PrismValue sides) (Zone Outside) parts p b is keeps = λ lies. none_holds sides (kept_parts parts) p is.0 lies (holding parts p b keeps)
-true_at (PrismValue sides) (Zone Inside) parts p b is keeps = in_prism sides (kept_parts parts) p is.1.0 (holding parts p b keeps)
-true_at (PrismValue sides) (Zone Open) parts p b is keeps = tt
-true_at (PrismValue sides) (Reach found) parts p b is keeps = is
-true_at (ReachValue a) (Zone found) parts p b is keeps = is
-true_at (ReachValue a) (Reach found) parts p b is keeps = reached a found (kept_parts parts) p is (holding parts p b keeps)
+module _ (bounds : List PlaneValue) (parts : List ShownStep) (p : Pos) (b : ℤ) (within : IsInPrism bounds p) where
+  true_at : (form : FormValue) (f : Finding) → IsFinding bounds form (kept_parts parts) f
+      → SomeKeeps p b parts → IsTrueAt form f p
+  true_at (BoxValue lo hi) (Zone Outside) is keeps = λ holds. none_in_zone bounds p within (corner_box lo hi) (kept_parts parts) is holds (holding parts p b keeps)
+  true_at (BoxValue lo hi) (Zone Inside) is keeps = in_zone bounds p within (corner_box lo hi) (kept_parts parts) is.1 (holding parts p b keeps)
+  true_at (BoxValue lo hi) (Zone Open) is keeps = tt
+  true_at (BoxValue lo hi) (Reach found) is keeps = is
+  true_at (PrismValue sides) (Zone Outside) is keeps = λ lies. none_holds bounds p within sides (kept_parts parts) is lies (holding parts p b keeps)
+  true_at (PrismValue sides) (Zone Inside) is keeps = in_prism bounds p within sides (kept_parts parts) is.1 (holding parts p b keeps)
+  true_at (PrismValue sides) (Zone Open) is keeps = tt
+  true_at (PrismValue sides) (Reach found) is keeps = is
+  true_at (ReachValue a) (Zone found) is keeps = is
+  true_at (ReachValue a) (Reach found) is keeps = reached a found (kept_parts parts) p is (holding parts p b keeps)
+
+grouped : (a b d m : ℤ) → (a +ℤ b +ℤ d) ≤ℤ m → (a +ℤ (b +ℤ d)) ≤ℤ m
+grouped a b d m h = omega (arith, ints, h)
 
 module _ (FitsAt : Pos → ℤ → Type 0) (root : GridBox) where
-  true_of : (parts : List ShownStep) → FitCover FitsAt root parts
-      → (ws : List WatchValue) (found : List Finding) → AreFindings ws (kept_parts parts) found
+  -- what fits lies within each bound
+  within_bounds : (bounds : List BoundValue) (p : Pos) (b : ℤ) → box_holds root p ≡ true → FitsAt p b
+      → AreFitBounds FitsAt root bounds → IsInPrism (bound_planes bounds) p
+  within_bounds [] p b inside fits all = tt
+  within_bounds (x ∷ bounds) p b inside fits all = (
+    grouped (x.half.x *ℤ p.x) (x.half.y *ℤ p.y) (x.half.z *ℤ p.z) x.half.most (all.0 p b inside fits),
+    within_bounds bounds p b inside fits all.1,
+  )
+
+  true_of : (bounds : List BoundValue) (parts : List ShownStep) → AreFitBounds FitsAt root bounds
+      → FitCover FitsAt root parts
+      → (ws : List WatchValue) (found : List Finding)
+      → AreFindings (bound_planes bounds) (kept_parts parts) ws found
       → AreTrueOf FitsAt root ws found
-  true_of parts cover [] [] are = tt
-  true_of parts cover [] (f ∷ found) are = absurd are
-  true_of parts cover (w ∷ ws) [] are = absurd are
-  true_of parts cover (w ∷ ws) (f ∷ found) are =
-      (λ p b inside fits. true_at w.form f parts p b are.0 (cover.covers p b inside fits), true_of parts cover ws found are.1)
+  true_of bounds parts bounded cover [] [] are = tt
+  true_of bounds parts bounded cover [] (f ∷ found) are = absurd are
+  true_of bounds parts bounded cover (w ∷ ws) [] are = absurd are
+  true_of bounds parts bounded cover (w ∷ ws) (f ∷ found) are = (
+    λ p b inside fits. true_at (bound_planes bounds) parts p b (within_bounds bounds p b inside fits bounded) w.form f are.0 (cover.covers p b inside fits),
+    true_of bounds parts bounded cover ws found are.1,
+  )
 
   epoch_true : (delays : Delays) (rules : Rules) (renewed : List (List Row)) (block : Block) (body : Option Body)
       → BodyPassesAt delays rules root renewed block body → FitBodyCover FitsAt root body
       → (ws : List WatchValue) (found : List Finding) → is_none body ≡ false
-      → AreFindings ws (cover_of body) found → AreTrueOf FitsAt root ws found
+      → AreFindings (bounds_of body) (cover_of body) ws found → AreTrueOf FitsAt root ws found
   epoch_true delays rules renewed block None passes cover ws found paved are = absurd cc
   epoch_true delays rules renewed block (Some body) passes cover ws found paved are =
-      true_of (pieces root (steps_in body.events)) cover.epoch ws found (subst (λ (box : GridBox). AreFindings ws (kept_parts (pieces box (steps_in body.events))) found) passes.0 are)
+      true_of body.bounds (pieces root (steps_in body.events)) cover.bounded cover.epoch ws found
+      (subst (λ (box : GridBox). AreFindings (bound_planes body.bounds) (kept_parts (pieces box (steps_in body.events))) ws found) passes.0 are)
 
   block_true : (delays : Delays) (rules : Rules) (renewed : List (List Row)) (block : Block)
       → BodyPassesAt delays rules root renewed block block.body

@@ -1,13 +1,15 @@
 //! Zones that are read, and answers of boxes.
 
 ghost use Rattle.std.specs.Prelude.{◌≤◌, ◌≤ℤ◌};
-ghost use Rattle.grid_model.specs.Sizes.{IsBoxSize};
+ghost use Rattle.grid_model.specs.Sizes.{IsBoxSize, IsWithin};
+ghost use Rattle.zone_guard.specs.Limits.{IsLimit};
 
 use grid_model::{Box3, Pos};
 use std::alloc::Global;
 use std::test::Fail;
 use zone_guard::{
-    Extent, Finding, Zone, ZoneAnswer, ZoneError, answer, found_in, read_watches, read_zones,
+    Direction, Extent, Finding, HalfSpace, ZoneAnswer, ZoneError, found_in, read_watches,
+    read_zones,
 };
 
 /// How many zones a text has, or its first line that doesn't fit, which is 0 for want of memory.
@@ -188,17 +190,30 @@ fn cube(lo: i64, hi: i64) -> Box3
     }
 }
 
-/// What boxes say of the first zone or direction behind a head.
-fn found(alloc: Global, lines: &str, boxes: &[Box3]) -> Result<Option<Finding>, Fail> {
+/// What boxes within bounds say of the first zone or direction behind a head.
+fn found_within(
+    alloc: Global,
+    lines: &str,
+    bounds: &[HalfSpace],
+    boxes: &[Box3],
+) -> Result<Option<Finding>, Fail> {
     let mut text = String::from_str(alloc, "gpszones 2\n")?;
     text.push_str(lines)?;
     if text.len() > 4_000_000_000 {
         return Ok(None);
     }
     match read_watches(alloc, text.as_bytes()) {
-        Ok(watches) => Ok(watches.list.first().map(|watch| found_in(watch, boxes))),
+        Ok(watches) => Ok(watches
+            .list
+            .first()
+            .map(|watch| found_in(watch, bounds, boxes))),
         Err(_) => Ok(None),
     }
+}
+
+/// The same without bounds.
+fn found(alloc: Global, lines: &str, boxes: &[Box3]) -> Result<Option<Finding>, Fail> {
+    found_within(alloc, lines, &[], boxes)
 }
 
 #[test]
@@ -253,6 +268,75 @@ fn zones_around_a_box_of_two_metres(rt: HostRuntime) -> Result<(), Fail> {
     let face = "zone a 1000000 -2000000 -2000000 2000000 2000000 2000000\n";
     assert_eq!(rt; found(alloc, face, &one)?, open);
     assert_eq!(rt; found(alloc, round, &[])?, outside);
+    Ok(())
+}
+
+/// The bound with this vector.
+fn bound(x: i64, y: i64, z: i64, most: i128) -> HalfSpace
+    requires x { IsWithin 1048576 x }
+    requires y { IsWithin 1048576 y }
+    requires z { IsWithin 1048576 z }
+    requires most { IsLimit most }
+{
+    HalfSpace {
+        along: Direction {
+            vector: Pos { x, y, z },
+        },
+        most,
+    }
+}
+
+// Of the box from -1 to 1 the bounds leave what has x + y <= 0, what has 2 x <= 1, or nothing.
+#[test]
+fn bounds_cut_boxes(rt: HostRuntime) -> Result<(), Fail> {
+    let alloc = rt.alloc();
+    let one = [cube(-1, 1)];
+    let slanted = [bound(1, 1, 0, 0)];
+    let outside = Some(Finding::Zone(ZoneAnswer::Outside));
+    let inside = Some(Finding::Zone(ZoneAnswer::Inside));
+    let open = Some(Finding::Zone(ZoneAnswer::Open));
+    let said = |lines, bounds| found_within(alloc, lines, bounds, &one);
+    // the bound itself, and what lies beyond it
+    assert_eq!(rt; said("prism a 1\nside 1 1 0 0\n", &slanted)?, inside);
+    assert_eq!(rt; said("prism a 1\nside 1 1 0 0\n", &[])?, open);
+    assert_eq!(rt; said("prism a 1\nside 1 1 0 -1\n", &slanted)?, open);
+    assert_eq!(rt; said("prism a 1\nside -1 -1 0 -1\n", &slanted)?, outside);
+    assert_eq!(rt; said("prism a 1\nside -1 -1 0 0\n", &slanted)?, open);
+    // the greatest 2 x + y is 1, at x = 1 and y = -1
+    assert_eq!(rt; said("prism a 1\nside 2 1 0 1\n", &slanted)?, inside);
+    assert_eq!(rt; said("prism a 1\nside 2 1 0 0\n", &slanted)?, open);
+    assert_eq!(rt; said("prism a 1\nside -2 -1 0 -2\n", &slanted)?, outside);
+    assert_eq!(rt; said("prism a 1\nside -2 -1 0 -1\n", &slanted)?, open);
+    // the points that box and zone share
+    assert_eq!(rt; said("zone a 0 1 -9 9 9 9\n", &slanted)?, outside);
+    assert_eq!(rt; said("zone a 0 0 -9 9 9 9\n", &slanted)?, open);
+    assert_eq!(rt; said("zone a -9 -9 -9 0 9 9\n", &[bound(2, 0, 0, 1)])?, inside);
+    assert_eq!(rt; said("zone a -9 -9 -9 0 9 9\n", &[bound(2, 0, 0, 2)])?, open);
+    // nothing is left
+    assert_eq!(rt; said("zone a -9 -9 -9 9 9 9\n", &[bound(1, 0, 0, -2)])?, outside);
+    assert_eq!(rt; said("prism a 1\nside 0 0 1 5\n", &[bound(1, 0, 0, -2)])?, outside);
+    Ok(())
+}
+
+#[test]
+fn the_largest_bounds_and_sides_fit(rt: HostRuntime) -> Result<(), Fail> {
+    let alloc = rt.alloc();
+    let whole = [cube(-10_000_000_000_000, 10_000_000_000_000)];
+    // x + y + z is at most 9 * 10^12, and 2^20 times that is 9437184 * 10^12
+    let bounds = [bound(1_000_000, 1_000_000, 1_000_000, 9_000_000_000_000_000_000)];
+    let said = |lines| found_within(alloc, lines, &bounds, &whole);
+    assert_eq!(rt;
+        said("prism a 1\nside 1048576 1048576 1048576 9437184000000000000\n")?,
+        Some(Finding::Zone(ZoneAnswer::Inside))
+    );
+    assert_eq!(rt;
+        said("prism a 1\nside 1048576 1048576 1048576 9437183999999999999\n")?,
+        Some(Finding::Zone(ZoneAnswer::Open))
+    );
+    assert_eq!(rt;
+        said("prism a 1\nside -1048576 -1048576 -1048576 -100000000000000000000\n")?,
+        Some(Finding::Zone(ZoneAnswer::Outside))
+    );
     Ok(())
 }
 
