@@ -1,7 +1,8 @@
 """Zones by exact fractions and by all corners, and what the program says of them.
 
 Its `guard` has to print what `gpslog answers` does, of a thousand drawn zones, prisms and
-directions on a solved and a tracked log of examples/vehicle.obs, and of zones that are made.
+directions on a solved and a tracked log of examples/vehicle.obs, on one with bounds, and of zones that
+are made.
 """
 
 import itertools
@@ -19,7 +20,7 @@ from pathlib import Path
 import pytest
 from made_logs import EXAMPLES, RECORDED, ended, ended_with
 
-from gpscover import shapes, zones
+from gpscover import bounded, shapes, zones
 from gpscover.geodesy import dot, earth_fixed
 from gpscover.log import Box
 from gpscover.log import epochs as read_epochs
@@ -95,6 +96,36 @@ def answer(sides, boxes):
     if all(any(min(values[s][b]) > sides[s][1] for s in range(len(sides))) for b in range(len(boxes))):
         return "outside"
     if boxes and all(max(values[s][b]) <= sides[s][1] for s in range(len(sides)) for b in range(len(boxes))):
+        return "inside"
+    return "open"
+
+
+def left(box, bound):
+    """The corners of what a bound leaves of a box: those of the box within it, and where its edges meet the plane."""
+    (d, most), lo, hi = bound, *box
+    corners = [corner for corner in itertools.product(*zip(lo, hi)) if dot(d, corner) <= most]
+    for axis in range(3):
+        others = [k for k in range(3) if k != axis]
+        for ends in itertools.product(*(((lo[k]), hi[k]) for k in others)):
+            at = dict(zip(others, ends))
+            if d[axis]:
+                at[axis] = Fraction(most - sum(d[k] * at[k] for k in others), d[axis])
+                if lo[axis] <= at[axis] <= hi[axis]:
+                    corners.append((at[0], at[1], at[2]))
+    return corners
+
+
+def bounded_answer(sides, boxes, bounds):
+    """What boxes say of a prism, each as far as it lies within one bound or none, by all corners of that."""
+    every = ((0, 0, 0), 0)
+    parts = [[left(box, bound) for bound in (every, *bounds)] for box in boxes]
+
+    def some(of, test):
+        return any(all(map(test, corners)) for corners in of)
+
+    if all(any(some(of, lambda p, a=a, h=h: dot(a, p) > h) for a, h in sides) for of in parts):
+        return "outside"
+    if all(some(of, lambda p, a=a, h=h: dot(a, p) < h + 1) for of in parts for a, h in sides):
         return "inside"
     return "open"
 
@@ -256,6 +287,50 @@ class TestAnswers:
             box = zones.Corners("a", low, high)
             assert box.answer(flat) == zones.Prism("a", sides).answer(flat)
 
+    def test_a_thousand_drawn_prisms_answer_within_bounds_as_all_corners_of_what_these_leave_do(self):
+        draw, said = random.Random(7), set()
+        for number in range(DRAWN):
+            reach = draw.choice((3, 3, 10**13))
+            boxes = drawn_boxes(draw, reach)
+
+            def plane(size, reach=reach):
+                a = tuple(draw.randint(-size, size) for _ in range(3))
+                a = a if any(a) else (0, size, 0)
+                most = sum(map(abs, a)) * reach
+                return a, draw.randint(-most // 2, most)
+
+            sides = [plane(5 if reach == 3 else 2**20) for _ in range(draw.randint(1, 3))]
+            bounds = [plane(5 if reach == 3 else 10**6) for _ in range(draw.randint(0, 3))]
+            if draw.random() < 0.5 and bounds:  # a side near what a bound leaves
+                (a, _), (d, most) = sides[0], bounds[0]
+                turn = draw.choice((1, -1))
+                sides[0] = tuple(turn * k for k in d), turn * most + draw.choice((-1, 0, 1))
+            flat = [(*lo, *hi) for lo, hi in boxes]
+            wanted = bounded_answer(sides, boxes, bounds)
+            assert zones.Prism("a", sides).answer(flat, bounds) == wanted, (number, sides, boxes, bounds)
+            said.add((bool(bounds), wanted, wanted != zones.Prism("a", sides).answer(flat)))
+        assert {(True, "outside", True), (True, "inside", True), (True, "open", False)} <= said
+
+    def test_a_box_answers_within_bounds_by_what_it_shares(self):
+        draw = random.Random(8)
+        for _ in range(DRAWN):
+            ends = [sorted(draw.randint(-4, 4) for _ in range(2)) for _ in range(3)]
+            low, high = zip(*ends)
+            boxes = drawn_boxes(draw, 4)
+            bounds = [(tuple(draw.randint(-3, 3) for _ in range(3)), draw.randint(-9, 9)) for _ in range(2)]
+            flat = [Box(*lo, *hi) for lo, hi in boxes]
+            box = zones.Corners("a", low, high)
+
+            def points(part, zone=(low, high), bound=((0, 0, 0), 0)):
+                shared = [range(max(a, b), min(c, d) + 1) for a, b, c, d in zip(part[0], zone[0], part[1], zone[1])]
+                return [point for point in itertools.product(*shared) if dot(bound[0], point) <= bound[1]]
+
+            outside = all(any(not points(part, bound=bound) for bound in (((0, 0, 0), 0), *bounds)) for part in boxes)
+            assert (box.answer(flat, bounds) == "outside") == outside
+            if not outside:
+                by_faces = zones.Prism("a", box.faces()).answer(flat, bounds)
+                assert by_faces == "outside" or box.answer(flat, bounds) == by_faces
+
     def test_lines_of_a_log(self):
         text = "gpszones 2\nzone a 0 0 0 2 2 2\nprism b 1\nside 1 1 1 3\nreach c 2 0 -1\n"
         log = [
@@ -390,7 +465,7 @@ def drawn_lines(draw, name, boxes):
 
 
 class TestGuards:
-    """What the program says of a solved and of a tracked log."""
+    """What the program says of a solved and of a tracked log, and of one with bounds."""
 
     @classmethod
     def setup_class(cls):
@@ -403,11 +478,14 @@ class TestGuards:
             text.replace("\n[bounds]\n", "\n[motion]\nspeed = 20000\n\n[bounds]\n"), encoding="utf-8"
         )
         cls.files = [str(EXAMPLES / "vehicle.obs"), str(EXAMPLES / "vehicle.nav"), str(cls.settings)]
-        cls.logs = {}
+        cls.logs: dict[Path, list[str]] = {}
         for command, options in (("solve", []), ("track", ["--track"])):
             log = cls.folder / f"{command}.log"
             subprocess.run([cls.program, command, *cls.files, log], check=True, stdout=subprocess.DEVNULL, timeout=600)
             cls.logs[log] = options
+        of_bounds = cls.folder / "bounded.log"
+        assert ended_with(bounded, str(cls.folder / "solve.log"), str(of_bounds)) == (0, "", "")
+        cls.logs[of_bounds] = []
 
     @classmethod
     def teardown_class(cls):
@@ -423,7 +501,7 @@ class TestGuards:
         assert ran.stdout == "".join(line + "\n" for line in wanted)
         return wanted
 
-    def test_a_thousand_drawn_zones_on_both_logs(self):
+    def test_a_thousand_drawn_zones_on_the_logs(self):
         draw, said = random.Random(6), set()
         for log, options in self.logs.items():
             regions = [[kept.box for kept in epoch.kept] for epoch in read_epochs(log) if epoch.kept]

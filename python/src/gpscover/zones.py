@@ -124,8 +124,10 @@ def opposite(side: Side) -> Side:
 
 
 def sum_by(side: Side, bound: Side, axis: int) -> Side:
-    """The sum of a side and a bound, each times the amount of what the other has on an axis. Where these differ in sign,
-    the sum has nothing there."""
+    """The sum of a side and a bound, each times the amount of what the other has on an axis.
+
+    Where these differ in sign the sum has nothing there.
+    """
     (a, most), (b, end) = side, bound
     n, k = abs(b[axis]), abs(a[axis])
     x, y, z = (n * u + k * v for u, v in zip(a, b))
@@ -135,9 +137,9 @@ def sum_by(side: Side, bound: Side, axis: int) -> Side:
 def is_beyond(side: Side, box: Sequence[int], bounds: Sequence[Side]) -> bool:
     """Whether the whole box lies beyond a plane, or one of the bounds leaves no point of it behind that.
 
-    The least of A p over the points p of a box with D p <= M is that of A p + t (D p - M) over the whole box with the t >= 0
-    for which it is greatest. As it is a sum of three lines with a bend each, that t is one at which A + t D has nothing along
-    an axis, or 0, or there is no such point and any large t shows it.
+    The least A p over the points p of a box with D p <= M is the least A p + t (D p - M) over the whole box, for that
+    t >= 0 for which this is greatest. As it is a sum of lines in t with one bend for each axis, that t is 0 or one at
+    which A + t D has nothing along an axis, or else there is no such point, and the whole box lies beyond the bound.
     """
     return is_past(side, box) or any(
         is_past(bound, box) or any(is_past(sum_by(side, bound, axis), box) for axis in range(3)) for bound in bounds

@@ -1,5 +1,5 @@
 use Rattle.zone_guard.proofs.EachLemmas.{boxes_more, boxes_all}
-use Rattle.zone_guard.proofs.PrismLemmas.{reach_more}
+use Rattle.zone_guard.proofs.ReachLemmas.{reach_more}
 use Rattle.zone_guard.proofs.reaches.reach_along.Goals as goal
 
 pub loop-part-preserved : goal.loop-part-preserved

@@ -1,4 +1,4 @@
-use Rattle.zone_guard.proofs.PrismLemmas.{extents_joined}
+use Rattle.zone_guard.proofs.ReachLemmas.{extents_joined}
 use Rattle.zone_guard.proofs.totals.joined.Goals as goal
 
 pub returns-clause-whole : goal.returns-clause-whole
