@@ -203,10 +203,12 @@ fn found_within(
         return Ok(None);
     }
     match read_watches(alloc, text.as_bytes()) {
-        Ok(watches) => Ok(watches
-            .list
-            .first()
-            .map(|watch| found_in(watch, bounds, boxes))),
+        Ok(watches) => Ok(
+            watches
+                .list
+                .first()
+                .map(|watch| found_in(watch, bounds, boxes)),
+        ),
         Err(_) => Ok(None),
     }
 }
@@ -310,11 +312,23 @@ fn bounds_cut_boxes(rt: HostRuntime) -> Result<(), Fail> {
     // the points that box and zone share
     assert_eq!(rt; said("zone a 0 1 -9 9 9 9\n", &slanted)?, outside);
     assert_eq!(rt; said("zone a 0 0 -9 9 9 9\n", &slanted)?, open);
-    assert_eq!(rt; said("zone a -9 -9 -9 0 9 9\n", &[bound(2, 0, 0, 1)])?, inside);
-    assert_eq!(rt; said("zone a -9 -9 -9 0 9 9\n", &[bound(2, 0, 0, 2)])?, open);
+    assert_eq!(rt;
+        said("zone a -9 -9 -9 0 9 9\n", &[bound(2, 0, 0, 1)])?,
+        inside
+    );
+    assert_eq!(rt;
+        said("zone a -9 -9 -9 0 9 9\n", &[bound(2, 0, 0, 2)])?,
+        open
+    );
     // nothing is left
-    assert_eq!(rt; said("zone a -9 -9 -9 9 9 9\n", &[bound(1, 0, 0, -2)])?, outside);
-    assert_eq!(rt; said("prism a 1\nside 0 0 1 5\n", &[bound(1, 0, 0, -2)])?, outside);
+    assert_eq!(rt;
+        said("zone a -9 -9 -9 9 9 9\n", &[bound(1, 0, 0, -2)])?,
+        outside
+    );
+    assert_eq!(rt;
+        said("prism a 1\nside 0 0 1 5\n", &[bound(1, 0, 0, -2)])?,
+        outside
+    );
     Ok(())
 }
 
