@@ -3,6 +3,7 @@ use Rattle.std.proofs.Common.{◌≡◌, Bool, true, false, List, [], ◌∷◌,
 use Rattle.std.specs.Prelude.{ℤ, is_none}
 use Rattle.bound_directions.specs.declared.directions.Directions.{Directions}
 use Rattle.subpaving.proofs.FoldingLemmas.{steps_fold}
+use Rattle.subpaving.specs.Folding.{StepsFold}
 use Rattle.log_writer.specs.LastRenewals.{last_events}
 use Rattle.log_writer.specs.Kept.{hull_kept}
 use Rattle.log_writer.specs.Pavings.{BodyExtends, HasRun}
