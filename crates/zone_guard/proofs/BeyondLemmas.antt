@@ -15,7 +15,6 @@ use Rattle.zone_guard.specs.Limits.{IsLimit}
 use Rattle.zone_guard.specs.Planes.{IsBehind, IsInPrism, LiesBeyond, PlaneValue, dot}
 use Rattle.zone_guard.specs.PrismAnswers.{IsEnclosed, IsShutOut}
 use Rattle.zone_guard.proofs.AnswerLemmas.{holds_from}
-use Rattle.zone_guard.proofs.CornerLemmas.{uncast_factor}
 
 -- ---- the products of a sum
 

@@ -3,7 +3,7 @@ use Rattle.std.proofs.Common.{◌≡◌, ℕ, ◌+◌, ◌<◌, ◌≤◌, List,
 use Rattle.std.specs.Prelude.{◌↔◌}
 use Rattle.std.specs.List.{AllByRecursion}
 use Rattle.std.proofs.lemmas.List.{take_more, take_all, map-append}
-use Rattle.grid_model.specs.Boxes.{GridBox, grid_box}
+use Rattle.grid_model.specs.Boxes.{grid_box}
 use Rattle.grid_model.specs.declared.boxes.Box3.{Box3}
 use Rattle.zone_guard.specs.Beyond.{IsSoOfOne}
 use Rattle.grid_model.proofs.ListLemmas.{next_item, no_item}

@@ -1,4 +1,4 @@
-use Rattle.std.proofs.Common.{rules, subst, sym, FitsSigned, w64}
+use Rattle.std.proofs.Common.{subst, sym, FitsSigned, w64}
 use Rattle.std.proofs.lemmas.Int.{to_z-of_z}
 use Rattle.grid_model.specs.Boxes.{grid_box}
 use Rattle.zone_guard.specs.Beyond.{sum_of}

@@ -1,7 +1,6 @@
-use Rattle.std.proofs.Common.{inl, inr, refl, rules, sym, ◌∙◌, FitsSigned, w64}
+use Rattle.std.proofs.Common.{inl, inr, refl, sym, ◌∙◌}
 use Rattle.std.specs.Prelude.{◌↔◌, IsTrue}
 use Rattle.std.proofs.lemmas.Bool.{false≢true}
-use Rattle.std.proofs.lemmas.Int.{to_z-of_z}
 use Rattle.grid_model.specs.Boxes.{grid_box}
 use Rattle.zone_guard.specs.Beyond.{IsBeyondSum}
 use Rattle.zone_guard.specs.Planes.{plane_value}

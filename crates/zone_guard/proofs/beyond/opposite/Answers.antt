@@ -1,6 +1,5 @@
 use Rattle.std.proofs.Common.{◌≡◌, rules, FitsSigned, w64}
 use Rattle.std.specs.Prelude.{neg_ℤ}
-use Rattle.std.specs.Int.{w128}
 use Rattle.std.proofs.lemmas.Int.{to_z-of_z}
 use Rattle.zone_guard.proofs.BeyondLemmas.{most_turned, plane_same, wide}
 use Rattle.zone_guard.proofs.CornerLemmas.{uncast_factor}

@@ -1,7 +1,7 @@
-use Rattle.std.proofs.Common.{◌≡◌, arith, rules, FitsSigned, w64}
+use Rattle.std.proofs.Common.{◌≡◌, rules, FitsSigned, w64}
 use Rattle.std.specs.Prelude.{pos, nat_abs}
 use Rattle.std.specs.Int.{w128}
-use Rattle.std.proofs.lemmas.Int.{ints, to_z-of_z}
+use Rattle.std.proofs.lemmas.Int.{to_z-of_z}
 use Rattle.zone_guard.specs.Beyond.{both_times}
 use Rattle.zone_guard.proofs.BeyondLemmas.{plane_same}
 use Rattle.zone_guard.proofs.beyond.sum_by.Goals as goal

@@ -1,4 +1,4 @@
-use Rattle.std.proofs.Common.{◌*◌, arith, refl, FitsSigned, w64}
+use Rattle.std.proofs.Common.{arith, refl, FitsSigned, w64}
 use Rattle.std.specs.Prelude.{◌*ℤ◌}
 use Rattle.std.proofs.lemmas.Int.{ints, to_z-of_z}
 use Rattle.grid_model.specs.Sizes.{IsWithin}

@@ -1,4 +1,4 @@
-use Rattle.std.proofs.Common.{◌≡◌, rules, refl, FitsSigned, w64}
+use Rattle.std.proofs.Common.{◌≡◌}
 use Rattle.std.specs.Prelude.{pos, negsuc, neg_ℤ}
 use Rattle.grid_model.proofs.PlainLemmas.{uncast_end}
 use Rattle.zone_guard.specs.Answers.{plane_on}
