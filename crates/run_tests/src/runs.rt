@@ -97,7 +97,7 @@ fn each_read_that_fails_has_its_status(rt: HostRuntime) -> Result<(), Fail> {
 }
 
 // Behind what is read the log is created by one call and written by the next. Behind the last call
-// none fails.
+// none fails. Standard output can't end a quiet run.
 #[test]
 fn each_write_that_fails_has_its_status(rt: HostRuntime) -> Result<(), Fail> {
     let table = [
@@ -115,6 +115,18 @@ fn each_write_that_fails_has_its_status(rt: HostRuntime) -> Result<(), Fail> {
             err_fails: 1,
             err: "",
             ..unsaid(JUDGE)
+        },
+        Case {
+            words: &["solve", "--quiet", "a.obs", "a.nav", "a.toml", "b.log"],
+            out_fails: 1,
+            out: "",
+            ..SOLVE
+        },
+        Case {
+            words: &["pave", "a.log", "b.log", "--quiet"],
+            out_room: 0,
+            out: "",
+            ..PAVE
         },
     ];
     for case in table {
