@@ -277,7 +277,8 @@ class TestWords(WholeRuns):
         self.expect("pave r l --quiet".split(), {"r": ROWS}, made={"l": EDGE_LOG})
         self.expect("pave --quiet r l".split(), {"r": ROWS}, made={"l": EDGE_LOG})
         # Behind two dashes it is a name.
-        self.expect("solve o n s -- --quiet".split(), self.FILES, DONE, few_report(1, 24), made={"--quiet": few_log(1, 24)})
+        named = {"--quiet": few_log(1, 24)}
+        self.expect("solve o n s -- --quiet".split(), self.FILES, DONE, few_report(1, 24), made=named)
 
     def test_not_taken(self):
         for words in (
@@ -294,8 +295,8 @@ class TestWords(WholeRuns):
                 "check o n s l --track", "make 7", "make 7 3 9", "make -1 3", "make 07 3", "make 4294967296 3", "make 7 0",
                 "make 7 241", "solve o n s l --quiet --quiet", "track o n moving l --quiet --from 3 --quiet",
                 "pave r l --quiet --quiet", "solve o n s l --quiet=true", "solve o n s l --quie", "solve o n s l -q",
-                "pave r l --quiet x", "check o n s l --quiet", "retrack o n moving l --quiet", "guard o n s z l --quiet",
-                "judge x --quiet", "make 7 3 --quiet",
+                "pave r l --quiet x", "check o n s l --quiet", "retrack o n moving l --quiet",
+                "guard o n s z l --quiet", "judge x --quiet", "make 7 3 --quiet",
             )),
         ):
             self.expect(words, self.FILES | {"x": EDGE_LOG, "r": ROWS}, NO_COMMAND, err=USAGE.decode())
