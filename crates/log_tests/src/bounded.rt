@@ -1,9 +1,9 @@
 //! Logs that are written with bounds.
 
-ghost use Rattle.std.specs.Prelude.{◌≤◌, length};
-
 use crate::renewed::found;
-use crate::writing::{Devices, Held, WHOLE, failing_log, log_bytes, rows_in, write};
+use crate::writing::{
+    Devices, FIRST_REPORT, Held, MORE_REPORT, WHOLE, both, failing_log, log_bytes, rows_in, write,
+};
 use arrayvec::ArrayVec;
 use bound_directions::{Direction, Directions};
 use log_writer::{LogBlocks, Wanted, WriteFault};
@@ -33,32 +33,89 @@ fn text_of(alloc: Global, version: &str, lines: &[&str]) -> Result<String, Alloc
     Ok(text)
 }
 
-/// Two vectors: x - y, and x.
-fn two_directions() -> Directions {
-    let mut vectors: ArrayVec<Direction, 64> = ArrayVec::new();
-    let _ = vectors.try_push(Direction { x: 1, y: -1, z: 0 });
-    let _ = vectors.try_push(Direction { x: 1, y: 0, z: 0 });
-    Directions::Vectors(vectors)
-}
+/// Vectors along which bounds are sought.
+const ALONG: [Direction; 5] = [
+    Direction { x: 1, y: -1, z: 0 },
+    Direction { x: -1, y: 0, z: 1 },
+    Direction { x: 1, y: 0, z: 0 },
+    Direction { x: 0, y: 0, z: 1 },
+    Direction { x: 1, y: 1, z: 1 },
+];
 
-/// Writes the log of the rows, where pairs are asked, with bounds along the two directions.
-fn write_bounded(alloc: Global, limit: u32, devices: &Devices) -> Result<Held, Fail> {
+/// The first lines of their bounds. Two rows leave x - y or z - x and nothing of the offset, so that
+/// it is at most 1 m, and 3 um for rounding. Along the others the box ends before any sum of rows does.
+const BOUNDS: [&str; 5] = [
+    "bound 1 -1 0 1000003 1\n",
+    "bound -1 0 1 1000003 1\n",
+    "bound 1 0 0 1000000 1\n",
+    "bound 0 0 1 900000 1\n",
+    "bound 1 1 1 2800000 1\n",
+];
+
+/// Writes the log of the rows, where pairs are asked, with bounds along these directions.
+fn write_bounded(
+    alloc: Global,
+    along: &[Direction],
+    limit: u32,
+    devices: &Devices,
+) -> Result<Held, Fail> {
     let log = rows_in(alloc, &text_of(alloc, "gpscover 3\n", &ROWS)?)?;
     if !log.rules.pairs {
         return Err(Fail::from("no pairs"));
     }
+    let mut vectors: ArrayVec<Direction, 64> = ArrayVec::new();
+    let _ = vectors.try_extend_from_slice(along);
     let wanted = Wanted {
         rules: log.rules,
-        directions: Some(two_directions()),
+        directions: Some(Directions::Vectors(vectors)),
     };
     write(alloc, &wanted, &mut LogBlocks::of_log(log), limit, devices)
 }
 
+/// The log up to its number of splits.
+fn log_before(alloc: Global) -> Result<String, AllocError> {
+    let mut text = text_of(alloc, "gpscover 4\n", &ROWS)?;
+    text.push_str(STEPS)?;
+    Ok(text)
+}
+
 #[test]
-fn shows(rt: HostRuntime) -> Result<(), Fail> {
+fn bounds_are_written_behind_the_splits(rt: HostRuntime) -> Result<(), Fail> {
     let alloc = rt.alloc();
-    let held = write_bounded(alloc, 5_000, &WHOLE)?;
-    let text = text_of(alloc, "gpscover 4\n", &ROWS)?;
-    assert_eq!(rt; log_bytes(&held), text.as_bytes());
+    for i in 0..5 {
+        let text = both(alloc, &log_before(alloc)?, BOUNDS[i])?;
+        let held = write_bounded(alloc, &ALONG[i..i + 1], 5_000, &WHOLE)?;
+        assert_eq!(rt; held.result, Ok(()));
+        assert!(rt; log_bytes(&held).starts_with(text.as_bytes()), "at {text}");
+        assert_eq!(rt;
+            held.out.bytes(),
+            both(alloc, FIRST_REPORT, MORE_REPORT)?.as_bytes()
+        );
+        let Ok(log) = std::str::from_utf8(log_bytes(&held)) else {
+            return Err(Fail::from("no text"));
+        };
+        assert_eq!(rt; found(alloc, log)?, Ok(Verdict::Yes { boxes: 1 }));
+    }
+    Ok(())
+}
+
+// The lines up to the number of splits have 535 bytes, and the next one has 23.
+#[test]
+fn a_log_may_be_full_among_its_bounds(rt: HostRuntime) -> Result<(), Fail> {
+    let alloc = rt.alloc();
+    let full = Err(WriteFault::Full);
+    let whole = write_bounded(alloc, &ALONG, 5_000, &WHOLE)?;
+    let table = [
+        (557, WHOLE, full, 535),
+        (558, WHOLE, full, 558),
+        (559, WHOLE, full, 558),
+        (5_000, failing_log(2), Err(WriteFault::Log), 0),
+    ];
+    for (limit, devices, result, bytes) in table {
+        let held = write_bounded(alloc, &ALONG, limit, &devices)?;
+        assert_eq!(rt; held.result, result);
+        assert_eq!(rt; log_bytes(&held).len(), bytes);
+        assert!(rt; log_bytes(&whole).starts_with(log_bytes(&held)));
+    }
     Ok(())
 }

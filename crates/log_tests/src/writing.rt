@@ -130,15 +130,15 @@ const HEAD: &str = "gpscover 1\nrules 0 0 1000000\nepoch 1 138810240000000000000
 
 const STEPS: &str = "edge 0 -1400000 1400000\ndone 0\n";
 
-const FIRST_REPORT: &str = "epoch 1 gps 1388102400.000000000000 satellites 4\n";
+pub const FIRST_REPORT: &str = "epoch 1 gps 1388102400.000000000000 satellites 4\n";
 
-const MORE_REPORT: &str = "\
+pub const MORE_REPORT: &str = "\
 edge -1.000000 1.000000 -0.900000 0.900000 -0.900000 0.900000 clock -1.400000 1.400000
 total in 0 edge 1 out 0 bisections 0
 ";
 
 /// Two texts, one behind the other.
-fn both(alloc: Global, first: &str, second: &str) -> Result<String, AllocError> {
+pub fn both(alloc: Global, first: &str, second: &str) -> Result<String, AllocError> {
     let mut text = String::from_str(alloc, first)?;
     text.push_str(second)?;
     Ok(text)
