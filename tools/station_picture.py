@@ -11,16 +11,9 @@ import sys
 
 from gpscover.command import measure, run_tool
 from gpscover.log import open_log
+from gpscover.drawn_regions import DIRECTIONS, box_polygons
 from gpscover.outline import outline
-from gpscover.pictures import (
-    DIRECTIONS,
-    EDGE_COLOUR,
-    EDGE_LINE_COLOUR,
-    PLACE_COLOUR,
-    box_polygons,
-    save,
-    tools,
-)
+from gpscover.plotting import EDGE_COLOUR, EDGE_LINE_COLOUR, PLACE_COLOUR, save, tools
 from gpscover.region import region_of, upward
 
 COLOURS = EDGE_COLOUR, "#9dc3e6"
