@@ -195,6 +195,8 @@ VERDICTS = (
     ({9: WITH_ALL[8] + " -901000 899000"}, "no 59 InNotShown line 22"),
     # A satellite that is skipped since the search box comes too near to the origin.
     ({4: "skip G03 7", 8: "skip G09 7", 12: "skip G32 7"}, "yes 3"),
+    # Those that a station doesn't have, and of which the codes are far from its own.
+    ({4: "skip G03 8", 8: "skip G09 9"}, "yes 3"),
     # A hull that is none is held by any span.
     ({17: "edge 2 5 5"}, "yes 4"),
     # 61 and 62: both fail where the third split is no longer allowed for either reason.
