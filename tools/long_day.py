@@ -26,7 +26,8 @@ from pathlib import Path
 
 from gpscover.bounds import ionosphere_mapping, troposphere_mapping
 from gpscover.command import run_tool
-from gpscover.log import UM_PER_M, epochs
+from gpscover.integrity import is_held
+from gpscover.log import epochs
 from tools.largest_sizes import FILES, Folder, Sizes, kept_boxes, navigation_parts, observation_parts, settings_with
 from tools.made.orbits import EPOCH, LIGHT, Record, turned
 from gpscover.geodesy import elevation
@@ -120,12 +121,8 @@ def cut_after(folder, name, count):
 
 def holding(path):
     """How many epochs a log has, and in how many of them a box holds the place."""
-    place = [round(at * UM_PER_M) for at in PLACE]
-    count = held = 0
-    for epoch in epochs(path):
-        count += 1
-        held += any(all(kept.box[k] <= place[k] <= kept.box[k + 3] for k in range(3)) for kept in epoch.kept)
-    return count, held
+    held = [is_held(epoch, PLACE) for epoch in epochs(path)]
+    return len(held), sum(held)
 
 
 class Parts:
