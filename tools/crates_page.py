@@ -75,9 +75,7 @@ def without_lower(below, crates):
 def row(name, crates):
     """A crate's row of the table."""
     own = without_lower([it for it in crates[name] if it in crates], crates)
-    named = [f"[`{it}`]({it})" for it in own] + [
-        f"`{it}`" for it in crates[name] if it not in crates
-    ]
+    named = [f"[`{it}`]({it})" for it in own] + [f"`{it}`" for it in crates[name] if it not in crates]
     return f"| [`{name}`]({name}) | {first_sentence(name)} | {', '.join(named) or 'none'} |"
 
 

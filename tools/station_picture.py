@@ -30,9 +30,7 @@ def draw_panel(axes, collections, drawn, colour, pair):
     epoch, region = drawn
     first, second = (region.axes["east north up".split().index(name)] for name in pair)
     polygons = box_polygons(epoch.boxes, region.origin, first, second)
-    boxes = collections.PolyCollection(
-        polygons, facecolors=colour, edgecolors="#00000050", linewidths=0.1
-    )
+    boxes = collections.PolyCollection(polygons, facecolors=colour, edgecolors="#00000050", linewidths=0.1)
     axes.add_collection(boxes)
     axes.plot([0], [0], "+", color=PLACE_COLOUR, markersize=10, markeredgewidth=1.6)
     axes.autoscale_view()
