@@ -7,10 +7,12 @@ from unittest import mock
 
 import pytest
 
+from made_logs import FIVE, HEAD, PAVED, RENEWED, epoch_of, written
+
 from gpscover.log import Row
 from tools import bench, certified_table, exact_extents, largest_sizes, long_day, pairs_table, renewed
 from tools.made import orbits
-from tools.tests.logs import FIVE, HEAD, PAVED, RENEWED, ended, epoch_of, written
+from tools.tests.program import ended
 
 
 class TestExactExtents:
