@@ -7,16 +7,16 @@ Each link names definitions, which are copied from their files; those that stand
 of a module stands over the first definition of it. Exit status: 0; 1 and one line where a file or a name is gone.
 """
 import re
-import sys
 import textwrap
 from pathlib import Path
 
 from gpscover.command import run_tool
+from gpscover.errors import Error
 
 ROOT = Path(__file__).resolve().parents[1]
 
 
-class Gone(Exception):
+class Gone(Error):
     """A file or a name that a link needs isn't there."""
 
 
@@ -335,11 +335,7 @@ def page():
 
 
 def main():
-    try:
-        print(page(), end="")
-    except Gone as gone:
-        print(f"headline.py: {gone}", file=sys.stderr)
-        return 1
+    print(page(), end="")
     return 0
 
 

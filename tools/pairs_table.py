@@ -18,11 +18,11 @@ import argparse
 import re
 import resource
 import subprocess
-import sys
 import tempfile
 from pathlib import Path
 
 from gpscover.command import run_tool
+from gpscover.errors import Error
 from gpscover.log import epochs
 from tools.exact_extents import excesses
 
@@ -31,7 +31,7 @@ RUNS = 5
 HEAD = f"| receiver | q | half side | splits | with pairs: {SIDES} without: {SIDES}"
 
 
-class Failed(Exception):
+class Failed(Error):
     """A run that didn't end as it should."""
 
 
@@ -136,13 +136,9 @@ def main():
         parser.error("a receiver has OBS, NAV and SETTINGS")
     print(HEAD)
     print("|" + "---|" * 10)
-    try:
-        with tempfile.TemporaryDirectory() as room:
-            for first in range(0, len(arguments.files), 3):
-                print_rows(arguments, Path(room), arguments.files[first:first + 3])
-    except (Failed, OSError) as error:
-        print(f"pairs_table.py: {error}", file=sys.stderr)
-        return 1
+    with tempfile.TemporaryDirectory() as room:
+        for first in range(0, len(arguments.files), 3):
+            print_rows(arguments, Path(room), arguments.files[first:first + 3])
     return 0
 
 

@@ -25,7 +25,6 @@ import tempfile
 from pathlib import Path
 
 from gpscover.command import run_tool
-from gpscover.errors import Error
 from gpscover.log import epochs
 from tools.pairs_table import Failed, length, setting
 from gpscover.region import region_of
@@ -120,12 +119,8 @@ def main():
     parser.add_argument("--to", type=int, default=1, metavar="N", help="how many epochs (1)")
     parser.add_argument("--recheck", action="store_true", help="each log by the second checker too, which is slow")
     arguments = parser.parse_args()
-    try:
-        with tempfile.TemporaryDirectory() as room:
-            print_rows(arguments, Path(room))
-    except (Failed, Error, OSError) as error:
-        print(f"renewed.py: {error}", file=sys.stderr)
-        return 1
+    with tempfile.TemporaryDirectory() as room:
+        print_rows(arguments, Path(room))
     return 0
 
 
