@@ -172,8 +172,7 @@ def recorded(arguments, directory):
     """Each recorded pair: solved by the program, then checked and judged by both."""
     tally = Tally("recorded pairs")
     rinex = arguments.data / "rinex"
-    print("| recorded pair | epochs | rows | lines of the log | verdict of both | recheck, s | rows in 1 s |\n"
-          "|---|---|---|---|---|---|---|")
+    print("| recorded pair | epochs | rows | lines of the log | verdict of both | recheck, s | rows in 1 s |\n" "|---|---|---|---|---|---|---|")
     for settings in sorted(rinex.glob("*.toml")):
         base = settings.stem.rsplit("_", 1)[0]
         pairs = [(base, base)] + [(base + "_crlf", base + "_crlf")] * (rinex / f"{base}_crlf.obs").exists()
@@ -221,8 +220,7 @@ def own_rows(pair, log):
                 room = pair.files.rooms(box)[place]
                 theirs = low + room, high - room
                 if not fits_own(mine, theirs, room):
-                    print(f"  different: own spans of epoch {epoch.index} satellite {satellite.decode()}: {mine} and "
-                          f"{theirs}, {'WG'[place > 3]} {room}")
+                    print(f"  different: own spans of epoch {epoch.index} satellite {satellite.decode()}: {mine} and " f"{theirs}, {'WG'[place > 3]} {room}")
     return rows, spent or 1.0
 
 
