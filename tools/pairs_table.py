@@ -65,14 +65,19 @@ def outliers_of(settings):
     return int(found.group(1))
 
 
-def run(words):
-    """Runs a command, which is to end with 0, and answers its seconds of processor time, but for the system's."""
+def ended(words):
+    """What a command says, which is to end with 0, and its seconds of processor time, but for the system's."""
     before = resource.getrusage(resource.RUSAGE_CHILDREN)
-    ended = subprocess.run(words, stdout=subprocess.DEVNULL, stderr=subprocess.PIPE, text=True, check=False)
+    ran = subprocess.run(words, capture_output=True, text=True, check=False)
     after = resource.getrusage(resource.RUSAGE_CHILDREN)
-    if ended.returncode != 0:
-        raise Failed(f"{' '.join(map(str, words))}: status {ended.returncode} {ended.stderr.strip()}")
-    return after.ru_utime - before.ru_utime
+    if ran.returncode != 0:
+        raise Failed(f"{' '.join(map(str, words))}: status {ran.returncode} {(ran.stdout + ran.stderr).strip()}")
+    return ran.stdout, after.ru_utime - before.ru_utime
+
+
+def run(words):
+    """The seconds of a command alone."""
+    return ended(words)[1]
 
 
 def paved(program, room, log):
