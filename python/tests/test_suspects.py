@@ -14,6 +14,7 @@ STUB = """#!/usr/bin/env python3
 import sys
 at = sys.argv.index("--")
 options, (_, _, settings, log) = sys.argv[2:at], sys.argv[at + 1 :]
+assert options.pop() == "--quiet"
 assert options[-2:] == ["--station", "c"] or options[:1] in ([], ["--from"])
 settings = open(settings).read()
 assert "outliers = 0" in settings
