@@ -90,25 +90,16 @@ def selection_cases(folder):
 
 
 def bound_cases(folder):
-    """(words, status and line) of the bound that docs/LOG.md works out, and of the changes that its table names."""
+    """(words, status and line) of the bound that docs/LOG.md works out: 1 less isn't shown, nor with a row that may fail."""
     page = (TOP / "docs/LOG.md").read_text()
     bound, by = re.search(r"```\n(bound [-0-9].*)\n(by [0-9].*)\n```", page).groups()
     lines = ["gpscover 4", *(TOP / "examples/one-edge-box.log").read_text().splitlines()[1:]]
     fifth = "sat G05 0 0 0 0 -20000000000000 -20000000000000 20000000000000 20000000000000 -500000 500000"
     more = [lines[0], "rules 1 0 1000000", lines[2][:-1] + "5", *lines[3:7], fifth, *lines[7:]]
-    unshown = 1, "no 66 BoundNotShown line 11\n"
     for number, (log, wanted) in enumerate((
             ([*lines, bound, by], (0, "yes 1\n")),
-            ([*lines, bound.replace("1000003", "1000002"), by], unshown),
-            ([*lines, bound, by.replace("4194304", "4194303")], unshown),
-            ([*lines, bound, "by 4194304 0 -1 1 2 0 0 0 0 0 0"], unshown),
-            ([*lines, bound, "by 4194304 0 -1 1 1 4 0 0 0 0 0"], unshown),
-            ([*more, bound, by], (1, "no 66 BoundNotShown line 12\n")),
-            ([*lines, bound[:-1] + "2", by], (3, "log 40 BadLog line 13 kind 4\n")),
-            ([*lines, bound[:-1] + "0", by], (3, "log 40 BadLog line 11 kind 3\n")),
-            ([*lines, bound.replace("1000003", ""), by], (3, "log 40 BadLog line 11 kind 3\n")),
-            (["gpscover 3", *lines[1:], bound, by], (3, "log 40 BadLog line 11 kind 2\n")),
-            ([*lines[:-1], bound, by, lines[-1]], (3, "log 40 BadLog line 10 kind 2\n")))):
+            ([*lines, bound.replace("1000003", "1000002"), by], (1, "no 66 BoundNotShown line 11\n")),
+            ([*more, bound, by], (1, "no 66 BoundNotShown line 12\n")))):
         yield (written(folder, f"bound{number}.log", "\n".join([*log, ""])),), wanted
 
 
@@ -139,62 +130,6 @@ def wrong_word_cases():
     return [((*FILES, LOG, *option), WRONG_WORDS) for option in options] + [(words, WRONG_WORDS) for words in (
         ("--from", "2", *FILES, LOG), (LOG, "--from", "2"), (), ("--track",), ("--track", LOG),
         ("--track", "--track", *FILES, LOG))]
-
-
-# Five satellites of which one may fail: four of docs/LOG.md's worked log, with errors of a metre, and one below. At
-# the clock 0 G04 alone fails in the box, so each of the others has to be sure there: G01's inner span is from 1000000
-# - SHI to -1000000 - SLO, as the box reaches a metre along x.
-FIVE = """\
-gpscover 1
-rules 1 0 1000000
-epoch 1 1388102400000000000000 5
-sat G01 20000000000000 20000000000000 0 0 0 0 20000000000000 20000000000000 -1000000 1000000
-sat G02 0 0 20000000000000 20000000000000 0 0 20000000000000 20000000000000 -1000000 1000000
-sat G03 0 0 0 0 20000000000000 20000000000000 20000000000000 20000000000000 -1000000 1000000
-sat G04 12000000000000 12000000000000 16000000000000 16000000000000 0 0 20000000000000 20000000000000 -1000000 1000000
-sat G05 0 0 0 0 -20000000000000 -20000000000000 20000000000000 20000000000000 -1000000 1000000
-root -1000000 -900000 -900000 1000000 900000 900000
-in 0 0 -1900000 1900000
-done 0
-"""
-KIND_3 = 3, "log 40 BadLog line 4 kind 3\n"
-
-
-def sure_cases(folder):
-    """(words, status and line) of logs whose fourth line has numbers behind EHI, and of skips."""
-    one_box = (TOP / "examples/one-edge-box.log").read_text()
-    for number, (log, more, wanted) in enumerate((
-            (FIVE, "", (0, "yes 1\n")),
-            (FIVE, " -1000000 999999", (1, "no 59 InNotShown line 10\n")),
-            (FIVE, " -999999 1000000", (1, "no 59 InNotShown line 10\n")),
-            (FIVE, " -999999 999999", (1, "no 59 InNotShown line 10\n")),
-            (FIVE, " -1000000 1000000", KIND_3),
-            # The clock span is by ELO and EHI, whatever is sure.
-            (one_box, " -400000 400000", (0, "yes 1\n")),
-            (one_box, " -500000 400000", (0, "yes 1\n")),
-            (one_box, " -400000 500000", (0, "yes 1\n")),
-            (one_box, " 500000 -500000", (0, "yes 1\n")),
-            (one_box, " 1000000000000 -1000000000000", (0, "yes 1\n")),
-            (one_box, " 1000000000001 -500000", KIND_3),
-            (one_box, " -400000 -1000000000001", KIND_3),
-            (one_box, " -500001 400000", KIND_3),
-            (one_box, " -400000 500001", KIND_3),
-            (one_box, " -500000 500000", KIND_3),
-            (one_box, " -400000", KIND_3),
-            (one_box, " -400000 400000 0", KIND_3),
-            (one_box, " -400000 +400000", KIND_3),
-            (one_box, " -0400000 400000", KIND_3),
-            (one_box, "  -400000 400000", KIND_3))):
-        lines = log.split("\n")
-        lines[3] += more
-        yield (written(folder, f"sure{number}.log", "\n".join(lines)),), wanted
-    for number, (skip, wanted) in enumerate((
-            ("skip G02 7", (0, "yes 0\n")), ("skip G02 7 1", KIND_3), ("skip G02 7 0", KIND_3),
-            ("skip G02 6", KIND_3),
-            ("skip G02 8", (0, "yes 0\n")), ("skip G02 9", (0, "yes 0\n")), ("skip G02 9 0", KIND_3), ("skip G02 10", KIND_3),
-            ("skip G02 07", KIND_3), ("skip G02 0", KIND_3))):
-        few = f"gpscover 1\nrules 1 0 1000000\nfew 1 0 0\n{skip}\n"
-        yield (written(folder, f"skip{number}.log", few),), wanted
 
 
 # A satellite on the x axis at the time that the code was sent, 20,661.9 km above the place of the settings; of a
@@ -1045,7 +980,7 @@ def station_row_cases(folder):
 
 # The folder goes with the tests' process.
 ROOM = tempfile.TemporaryDirectory()
-WORDS = (verdict_cases, bound_cases, sure_cases, zenith_cases, mapped_cases, pair_cases, pair_settings_cases, track_cases, speed_cases,
+WORDS = (verdict_cases, bound_cases, zenith_cases, mapped_cases, pair_cases, pair_settings_cases, track_cases, speed_cases,
          selection_cases, station_skip_cases, station_file_cases, station_row_cases)
 VALUES = value_cases, tube_values
 

@@ -201,6 +201,14 @@ def arguments():
     return parser.parse_args()
 
 
+def earlier(path):
+    """What an earlier run wrote."""
+    try:
+        return json.loads(path.read_text(encoding="utf-8"))
+    except ValueError as error:
+        raise Failed(f"{path}: {error}") from None
+
+
 def measure(args):
     """Measures, prints and writes the table, and says what has changed."""
     absent = [tool for tool in (TIME, CALLGRIND[0]) if not shutil.which(tool)]
@@ -208,7 +216,7 @@ def measure(args):
         raise Failed(f"there is no {' and no '.join(absent)}: apt-get install valgrind time")
     before = None
     if args.against:
-        before = json.loads(args.against.with_suffix(".json").read_text(encoding="utf-8"))
+        before = earlier(args.against.with_suffix(".json"))
     names = ("receiver.obs", "receiver.nav", "settings.toml")
     sets = {"example": [EXAMPLES / name for name in names]}
     if args.recorded and not args.quick:
@@ -226,11 +234,7 @@ def measure(args):
 
 
 def main():
-    try:
-        measure(arguments())
-    except (Failed, OSError, ValueError) as error:
-        print(f"bench.py: {error}", file=sys.stderr)
-        return 1
+    measure(arguments())
     return 0
 
 

@@ -7,8 +7,10 @@ Floors and what a crate stands on are those of crates.txt; what it does is the f
 Exit status: 0; 1 and one line where a crate has no such sentence.
 """
 import re
-import sys
 from pathlib import Path
+
+from gpscover.command import run_tool
+from gpscover.errors import Error
 
 ROOT = Path(__file__).resolve().parents[1]
 
@@ -21,7 +23,7 @@ the kit come last, without a link. What flows from crate to crate, and what the 
 """
 
 
-class Missing(Exception):
+class Missing(Error):
     """A crate doesn't say what it does."""
 
 
@@ -75,9 +77,7 @@ def without_lower(below, crates):
 def row(name, crates):
     """A crate's row of the table."""
     own = without_lower([it for it in crates[name] if it in crates], crates)
-    named = [f"[`{it}`]({it})" for it in own] + [
-        f"`{it}`" for it in crates[name] if it not in crates
-    ]
+    named = [f"[`{it}`]({it})" for it in own] + [f"`{it}`" for it in crates[name] if it not in crates]
     return f"| [`{name}`]({name}) | {first_sentence(name)} | {', '.join(named) or 'none'} |"
 
 
@@ -92,13 +92,9 @@ def page():
 
 
 def main():
-    try:
-        print(page(), end="")
-    except Missing as missing:
-        print(f"crates_page.py: {missing}", file=sys.stderr)
-        return 1
+    print(page(), end="")
     return 0
 
 
 if __name__ == "__main__":
-    sys.exit(main())
+    run_tool(main)

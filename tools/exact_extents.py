@@ -71,14 +71,10 @@ def exact_extents(rows, outliers, centre, axes):
     """The least and greatest of the region along the axes and in the clock offset, from the centre; None if empty."""
     linear = [linear_row(row, centre) for row in rows]
     needed = len(linear) - outliers
-    kept = [
-        corner for corner in corners(linear) if sum(holds(row, corner) for row in linear) >= needed
-    ]
+    kept = [corner for corner in corners(linear) if sum(holds(row, corner) for row in linear) >= needed]
     if not kept:
         return None
-    along = [[dot(axis, corner) for corner in kept] for axis in axes] + [
-        [corner[3] for corner in kept]
-    ]
+    along = [[dot(axis, corner) for corner in kept] for axis in axes] + [[corner[3] for corner in kept]]
     return [(min(values), max(values)) for values in along]
 
 
@@ -94,9 +90,7 @@ def excesses(epoch):
 
 def main():
     """Prints a line for each epoch with a region."""
-    parser = argparse.ArgumentParser(
-        description=__doc__, formatter_class=argparse.RawDescriptionHelpFormatter
-    )
+    parser = argparse.ArgumentParser(description=__doc__, formatter_class=argparse.RawDescriptionHelpFormatter)
     parser.add_argument("log", metavar="LOG")
     found = []
     for epoch in epochs(parser.parse_args().log):
@@ -105,9 +99,7 @@ def main():
             print(f"{epoch.index:6}  {calendar(epoch.ps)}  no region")
             continue
         found.append([more for _, more in compared])
-        parts = (
-            f"{name} {width:8.1f} {more:+6.1f} %" for name, (width, more) in zip(NAMES, compared)
-        )
+        parts = (f"{name} {width:8.1f} {more:+6.1f} %" for name, (width, more) in zip(NAMES, compared))
         print(f"{epoch.index:6}  {calendar(epoch.ps)}  " + "  ".join(parts))
     means = [sum(values) / len(found) for values in zip(*found)]
     print("mean  " + "  ".join(f"{name} {mean:+.1f} %" for name, mean in zip(NAMES, means)))

@@ -1,11 +1,11 @@
 #!/usr/bin/env python3
 """Makes the ranges of each satellite in turn too long, and counts what regions and RTKLIB's RAIM say of that.
 
-usage: PYTHONPATH=python/src python3 -m tools.faults OBS NAV SETTINGS --place X Y Z [--station STATION]
+usage: PYTHONPATH=python/src python3 -m tools.faults OBS NAV SETTINGS --place X Y Z [--station STATION] [--every N]
        [--program GPSCOVER] METRES..
 
 Each fault is one satellite in one epoch, whose codes are all too long by so many metres (or too short, if these are below
-zero). X Y Z is where the receiver stood. A line of the table has of the faults of a size
+zero), of every N-th epoch (1). X Y Z is where the receiver stood. A line of the table has of the faults of a size
   held     how often the region at q = 1 holds the place
   shown    how often no position fits at q = 0, so that something is wrong for sure
   named    how often `gpslog suspect log` names the satellite at q = 1, and how often another one
@@ -18,6 +18,7 @@ Exit status: 0; 1 where a run fails; 2 for a wrong command line.
 """
 import argparse
 import math
+import re
 import shutil
 import subprocess
 import tempfile
@@ -55,6 +56,12 @@ def with_fault(text, satellite, metres):
                     line = f"{line[:at]}{float(line[at:at + 14]) + metres:14.3f}{line[at + 14:]}"
             lines[k] = line
     return "\n".join(lines) + "\n"
+
+
+def thinned(text, every):
+    """An observation file with each so-many-th of its epochs."""
+    head, *blocks = re.split(r"(?m)^(?=>)", text)
+    return "".join([head, *blocks[::every]])
 
 
 def raim(obs, nav, room):
@@ -119,16 +126,17 @@ def count_regions(counts, args, obs, settings, room, satellite):
 
 def table(args, room):
     """The lines of the table."""
-    settings, text = Settings.read(args.settings), Path(args.obs).read_text(encoding="utf-8")
+    settings, text = Settings.read(args.settings), thinned(Path(args.obs).read_text(encoding="utf-8"), args.every)
+    obs = room / "faulty.obs"
+    obs.write_text(text, encoding="utf-8", newline="\n")
     asks = args.station is None and shutil.which("rnx2rtkp") is not None
     satellites = sorted({line[:3] for line in text.splitlines() if line[0] == "G" and line[1:3].isdigit()})
-    right = raim(args.obs, args.nav, room) if asks else {}
+    right = raim(obs, args.nav, room) if asks else {}
     head = "size m  faults    held   shown   named another"
     yield head + ("     raim another    none    kept  moved m  another m" if asks else "")
     for metres in args.metres:
         counts, moved = Counter(), {}
         for satellite in satellites:
-            obs = room / "faulty.obs"
             obs.write_text(with_fault(text, satellite, metres), encoding="utf-8", newline="\n")
             count_regions(counts, args, obs, settings, room, satellite)
             if asks:
@@ -147,6 +155,7 @@ def main():
     parser.add_argument("metres", metavar="METRES", nargs="+", type=measure, help="how much too long ranges are")
     parser.add_argument("--place", nargs=3, type=measure, metavar=("X", "Y", "Z"), required=True)
     parser.add_argument("--station", help="the observation file of the station")
+    parser.add_argument("--every", type=int, default=1, metavar="N", help="faults in every N-th epoch alone")
     parser.add_argument("--program", help="the program (the one that ./gpscover runs)")
     args = parser.parse_args()
     with tempfile.TemporaryDirectory() as room:

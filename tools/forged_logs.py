@@ -195,6 +195,8 @@ VERDICTS = (
     ({9: WITH_ALL[8] + " -901000 899000"}, "no 59 InNotShown line 22"),
     # A satellite that is skipped since the search box comes too near to the origin.
     ({4: "skip G03 7", 8: "skip G09 7", 12: "skip G32 7"}, "yes 3"),
+    # Those that a station doesn't have, and of which the codes are far from its own.
+    ({4: "skip G03 8", 8: "skip G09 9"}, "yes 3"),
     # A hull that is none is held by any span.
     ({17: "edge 2 5 5"}, "yes 4"),
     # 61 and 62: both fail where the third split is no longer allowed for either reason.
@@ -418,8 +420,7 @@ def pairs_by_renewed_rows():
     new = [ONE_BOX[3], far, *ONE_BOX[5:7]]
     for version, answer in (2, "no 58 OutNotShown line 14"), (3, "yes 0"):
         yield put([*head, box, *new, "out 0", "done 0"], 1, f"gpscover {version}"), answer
-        yield put([*head[:4], far, *head[5:], box, *rows, "out 0", "done 0"], 1, f"gpscover {version}"), (
-            "no 58 OutNotShown line 14")
+        yield put([*head[:4], far, *head[5:], box, *rows, "out 0", "done 0"], 1, f"gpscover {version}"), ("no 58 OutNotShown line 14")
 
 
 def short_renewals():
@@ -757,8 +758,7 @@ WRONG_FIELDS = {
          "cut 0 6 15000000", "cut 0 -1 15000000", "cut -1 1 15000000", "cut 400001 1 15000000",
          "cut 0 1 10000000000001", "cut 0 1 -10000000000001", "cut 0 1 015000000", "cut 0 1 +15000000", "cut 0 1 -0",
          "cut 0 1 15000000.0", "cut 0 1 1e7", "cut 0 1 15000000\r", "cut 0 1\t15000000", "cut 0 01 15000000",
-         "cut 0 x 15000000",
-         "cut 0 1 99999999999999999999999999999999999999999"),
+         "cut 0 x 15000000", "cut 0 1 99999999999999999999999999999999999999999"),
     16: ("split 0 3", "split 0", "split 0 0 0", "split 400001 0", "split -0 0"),
     17: ("out", "out ", "out  2", "out 2 ", "out 2 0", "out 400001", "out -2", "out 02", "out 2\r"),
     22: ("in", "in 5", "in 5 0", "in 5 0 0", "in 5 0 -1900000 1900000 0", "in 5 0 1900000 -1900000", "in 5 0 1 0",
@@ -1053,8 +1053,7 @@ def checked_renewals(files):
     yield "a row more", renewed(rows + rows[-1:]), f"log 40 BadLog line {root + 2 + len(rows)} kind 2"
     yield "rows swapped", renewed([*rows[:3], rows[4], rows[3], *rows[5:]]), f"no 52 SatelliteDiffers line {root + 5}"
     yield "a row twice", renewed([*rows[:3], rows[2], *rows[4:]]), f"no 52 SatelliteDiffers line {root + 5}"
-    yield "a satellite that isn't used", renewed(["sat G01" + rows[0][7:], *rows[1:]]), (
-        f"no 52 SatelliteDiffers line {root + 2}")
+    yield "a satellite that isn't used", renewed(["sat G01" + rows[0][7:], *rows[1:]]), (f"no 52 SatelliteDiffers line {root + 2}")
     # A row of which a span is moved by its length, so that the own one isn't held; and of other bounds.
     words = rows[2].split()
     for low in 2, 4, 6, 8:

@@ -27,9 +27,7 @@ NOT_RUN = "receiver.ubx"
 
 def typed(commands):
     """What the commands print."""
-    ran = subprocess.run(
-        ["bash", "-c", commands], stdout=subprocess.PIPE, stderr=subprocess.STDOUT, text=True
-    )
+    ran = subprocess.run(["bash", "-c", commands], stdout=subprocess.PIPE, stderr=subprocess.STDOUT, text=True)
     return ran.stdout.rstrip()
 
 

@@ -7,16 +7,16 @@ Each link names definitions, which are copied from their files; those that stand
 of a module stands over the first definition of it. Exit status: 0; 1 and one line where a file or a name is gone.
 """
 import re
-import sys
 import textwrap
 from pathlib import Path
 
 from gpscover.command import run_tool
+from gpscover.errors import Error
 
 ROOT = Path(__file__).resolve().parents[1]
 
 
-class Gone(Exception):
+class Gone(Error):
     """A file or a name that a link needs isn't there."""
 
 
@@ -49,18 +49,12 @@ LINKS = (
         "A run of `check`, by its status",
         "A task says which files are read, how, and what is done with what was read. Of a run of it `found` speaks of the"
         " reading, and `ends` of what was done. (The `Fits` of `exact` is of a status, and not that of link 8.)",
-        (
-            ("crates/cover_run/specs/Runs.antt", "checking"),
-            ("crates/cover_run/specs/Runs.antt", "RunOf", "Ends"),
-        ),
+        (("crates/cover_run/specs/Runs.antt", "checking"), ("crates/cover_run/specs/Runs.antt", "RunOf", "Ends")),
         "From `ends` to the line that is printed: where every file was read and accepted, a verdict is told, as `Does` of the"
         " task says, with `SaysAccepted` for `Yes` and `SaysRefused` for `No`; else the status is that of a notice, which is"
         " never `Done` (`status_of` of `crates/input_files/specs/Statuses.antt`). So a run that ends with `Done` (status 0) read"
         " files that are accepted, and printed a line that says so.",
-        (
-            ("crates/cover_run/specs/Runs.antt", "TellsAlone"),
-            ("crates/cover_run/specs/Telling.antt", "Tells"),
-        ),
+        (("crates/cover_run/specs/Runs.antt", "TellsAlone"), ("crates/cover_run/specs/Telling.antt", "Tells")),
         "From `found` to the files: what was read, as plain values, is what they give. `ReadsChecked` (of"
         " `crates/cover_run/specs/Checking.antt`) reads the settings, the navigation file, a station's file where the words name"
         " one, the observation file and the log in this order, each by `Named`, as `ReadsObs` does the observation file."
@@ -173,10 +167,7 @@ LINKS = (
         (("crates/gnss_model/specs/ChainValues.antt", "ChainValue"),),
         "From `lo` and `hi` of link 8 to the declared bounds: they are the ends of the sum of all spans that the settings"
         " declare for the satellite (`bound_for`) and, where delays straight up are declared, of these, mapped by its elevation.",
-        (
-            ("crates/sat_rows/specs/Chains.antt", "IsBound"),
-            ("crates/error_bounds/specs/Reading.antt", "bound_for"),
-        ),
+        (("crates/sat_rows/specs/Chains.antt", "IsBound"), ("crates/error_bounds/specs/Reading.antt", "bound_for")),
     ),
     (
         "Every log that `solve` completes is one that `check` accepts",
@@ -257,11 +248,7 @@ def lines_of(path):
 
 def comment_above(lines, at, mark):
     """Where the comment right above a line begins."""
-    while (
-        at > 0
-        and lines[at - 1].lstrip().startswith(mark)
-        and not lines[at - 1].lstrip().startswith(f"{mark} ----")
-    ):
+    while at > 0 and lines[at - 1].lstrip().startswith(mark) and not lines[at - 1].lstrip().startswith(f"{mark} ----"):
         at -= 1
     return at
 
@@ -314,11 +301,7 @@ def clause(path, name):
     lines = lines_of(path)
     for at, line in enumerate(lines):
         if re.match(rf"\s*ensures {re.escape(name)} ", line):
-            end = next(
-                k
-                for k in range(at + 1, len(lines))
-                if re.match(r"\s*(ensures|requires|//|\{|$)", lines[k])
-            )
+            end = next(k for k in range(at + 1, len(lines)) if re.match(r"\s*(ensures|requires|//|\{|$)", lines[k]))
             return lines[comment_above(lines, at, "//") : end]
     raise Gone(f"{path}: no clause {name}")
 
@@ -352,11 +335,7 @@ def page():
 
 
 def main():
-    try:
-        print(page(), end="")
-    except Gone as gone:
-        print(f"headline.py: {gone}", file=sys.stderr)
-        return 1
+    print(page(), end="")
     return 0
 
 

@@ -22,13 +22,13 @@ import os
 import random
 import sys
 import tempfile
-from pathlib import Path
 
-from gpscover.bounds import ionosphere_mapping, troposphere_mapping
 from gpscover.command import run_tool
-from gpscover.log import UM_PER_M, epochs
+from gpscover.integrity import is_held
+from gpscover.log import epochs
 from tools.largest_sizes import FILES, Folder, Sizes, kept_boxes, navigation_parts, observation_parts, settings_with
-from tools.made.orbits import EPOCH, LIGHT, Record, turned
+from tools.made.made_network import epoch_line
+from tools.made.orbits import EPOCH, LIGHT, Record, arrival, delay
 from gpscover.geodesy import elevation
 
 LENGTH_L1 = LIGHT / 1575.42e6
@@ -36,24 +36,13 @@ MAX_AGE = 7200
 # The place of the example's receiver by another program, in m.
 PLACE = (-3869310.32, 3436566.11, 3717366.55)
 MASK, MOST = math.radians(5), 12
-# What is made in m, within the bounds: delays at the zenith, a shell's height in km, and noise.
-TROPOSPHERE, IONOSPHERE, SHELL_KM, NOISE = 2.4, 4.0, 350, 2.0
+NOISE = 2.0  # m
 BOUNDS = {
     "receiver": "[-5000, 5000]",
     "orbit_clock": "[-4000, 4000]",
     "ionosphere": "[0, 25000]",
     "troposphere": "[2000, 25000]",
 }
-
-
-def signal(record, time):
-    """Whence the signal comes that arrives at a time, in the frame of the arrival, and its pseudorange in vacuo."""
-    flight = 0.075
-    for _ in range(3):
-        sent, clock = record.at(time - flight)
-        place = turned(sent, flight)
-        flight = math.dist(place, PLACE) / LIGHT
-    return place, LIGHT * (flight - clock)
 
 
 class Sky:
@@ -75,10 +64,9 @@ class Sky:
         seen = []
         for satellite in self.records:
             if record := self.record(satellite, time):
-                angle = elevation(PLACE, signal(record, time)[0])
+                angle = elevation(PLACE, arrival(record, PLACE, time)[0])
                 if angle > MASK:
-                    air = TROPOSPHERE * troposphere_mapping(angle) + IONOSPHERE * ionosphere_mapping(angle, SHELL_KM)
-                    seen.append((angle, satellite, air))
+                    seen.append((angle, satellite, delay(angle)))
         return [(satellite, air) for _, satellite, air in sorted(seen, reverse=True)[:MOST]]
 
 
@@ -92,10 +80,9 @@ def epoch_texts(sky, count, step=1):
         lines = []
         for satellite, air in sight:
             if record := sky.record(satellite, time):
-                code = signal(record, time)[1] + air + draw.uniform(-NOISE, NOISE)
+                code = arrival(record, PLACE, time)[1] + air + draw.uniform(-NOISE, NOISE)
                 lines.append(f"{satellite}{code:14.3f}  {code / LENGTH_L1:14.3f}  {0:14.3f}  {45:14.3f}  \n")
-        date = EPOCH + datetime.timedelta(seconds=time)
-        yield f"> {date:%Y %m %d %H %M}{date.second:11.7f}  0{len(lines):3}\n" + "".join(lines)
+        yield epoch_line(EPOCH + datetime.timedelta(seconds=time), len(lines)) + "\n" + "".join(lines)
 
 
 def make_files(folder, nav, count, step=1):
@@ -120,12 +107,8 @@ def cut_after(folder, name, count):
 
 def holding(path):
     """How many epochs a log has, and in how many of them a box holds the place."""
-    place = [round(at * UM_PER_M) for at in PLACE]
-    count = held = 0
-    for epoch in epochs(path):
-        count += 1
-        held += any(all(kept.box[k] <= place[k] <= kept.box[k + 3] for k in range(3)) for kept in epoch.kept)
-    return count, held
+    held = [is_held(epoch, PLACE) for epoch in epochs(path)]
+    return len(held), sum(held)
 
 
 class Parts:

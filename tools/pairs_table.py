@@ -18,11 +18,11 @@ import argparse
 import re
 import resource
 import subprocess
-import sys
 import tempfile
 from pathlib import Path
 
 from gpscover.command import run_tool
+from gpscover.errors import Error
 from gpscover.log import epochs
 from tools.exact_extents import excesses
 
@@ -31,7 +31,7 @@ RUNS = 5
 HEAD = f"| receiver | q | half side | splits | with pairs: {SIDES} without: {SIDES}"
 
 
-class Failed(Exception):
+class Failed(Error):
     """A run that didn't end as it should."""
 
 
@@ -65,14 +65,19 @@ def outliers_of(settings):
     return int(found.group(1))
 
 
-def run(words):
-    """Runs a command, which is to end with 0, and answers its seconds of processor time, but for the system's."""
+def ended(words):
+    """What a command says, which is to end with 0, and its seconds of processor time, but for the system's."""
     before = resource.getrusage(resource.RUSAGE_CHILDREN)
-    ended = subprocess.run(words, stdout=subprocess.DEVNULL, stderr=subprocess.PIPE, text=True, check=False)
+    ran = subprocess.run(words, capture_output=True, text=True, check=False)
     after = resource.getrusage(resource.RUSAGE_CHILDREN)
-    if ended.returncode != 0:
-        raise Failed(f"{' '.join(map(str, words))}: status {ended.returncode} {ended.stderr.strip()}")
-    return after.ru_utime - before.ru_utime
+    if ran.returncode != 0:
+        raise Failed(f"{' '.join(map(str, words))}: status {ran.returncode} {(ran.stdout + ran.stderr).strip()}")
+    return ran.stdout, after.ru_utime - before.ru_utime
+
+
+def run(words):
+    """The seconds of a command alone."""
+    return ended(words)[1]
 
 
 def paved(program, room, log):
@@ -136,13 +141,9 @@ def main():
         parser.error("a receiver has OBS, NAV and SETTINGS")
     print(HEAD)
     print("|" + "---|" * 10)
-    try:
-        with tempfile.TemporaryDirectory() as room:
-            for first in range(0, len(arguments.files), 3):
-                print_rows(arguments, Path(room), arguments.files[first:first + 3])
-    except (Failed, OSError) as error:
-        print(f"pairs_table.py: {error}", file=sys.stderr)
-        return 1
+    with tempfile.TemporaryDirectory() as room:
+        for first in range(0, len(arguments.files), 3):
+            print_rows(arguments, Path(room), arguments.files[first:first + 3])
     return 0
 
 

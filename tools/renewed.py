@@ -18,16 +18,13 @@ Exit status: 0; 1 where a run fails, a yes differs or a file can't be read; 2 fo
 import argparse
 import itertools
 import re
-import resource
-import subprocess
 import sys
 import tempfile
 from pathlib import Path
 
 from gpscover.command import run_tool
-from gpscover.errors import Error
 from gpscover.log import epochs
-from tools.pairs_table import Failed, length, setting
+from tools.pairs_table import Failed, ended, length, setting
 from gpscover.region import region_of
 
 RECHECK = Path(__file__).resolve().parents[1] / "second/recheck.py"
@@ -51,16 +48,6 @@ def with_values(settings, half, pairs, zenith, renew):
     if pairs is not None:
         text = setting(text, "pairs", str(pairs).lower())
     return text if zenith is None else mapped(text, zenith)
-
-
-def ended(words):
-    """What a command says, which is to end with 0, and its seconds of processor time, but for the system's."""
-    before = resource.getrusage(resource.RUSAGE_CHILDREN)
-    ran = subprocess.run(words, capture_output=True, text=True, check=False)
-    after = resource.getrusage(resource.RUSAGE_CHILDREN)
-    if ran.returncode != 0:
-        raise Failed(f"{' '.join(map(str, words))}: status {ran.returncode} {(ran.stdout + ran.stderr).strip()}")
-    return ran.stdout, after.ru_utime - before.ru_utime
 
 
 def solved(arguments, room, settings):
@@ -120,12 +107,8 @@ def main():
     parser.add_argument("--to", type=int, default=1, metavar="N", help="how many epochs (1)")
     parser.add_argument("--recheck", action="store_true", help="each log by the second checker too, which is slow")
     arguments = parser.parse_args()
-    try:
-        with tempfile.TemporaryDirectory() as room:
-            print_rows(arguments, Path(room))
-    except (Failed, Error, OSError) as error:
-        print(f"renewed.py: {error}", file=sys.stderr)
-        return 1
+    with tempfile.TemporaryDirectory() as room:
+        print_rows(arguments, Path(room))
     return 0
 
 

@@ -22,15 +22,9 @@ from gpscover.command import run_tool
 from gpscover.errors import Error
 
 CRATES = Path(__file__).resolve().parents[1] / "crates"
-STARTS = (
-    "cover_run.Runs.checking",
-    "cover_run.Checking.Accepts",
-    "paving_log_check.FileCover.FileCover",
-)
+STARTS = ("cover_run.Runs.checking", "cover_run.Checking.Accepts", "paving_log_check.FileCover.FileCover")
 USE = re.compile(r"^use Rattle\.(\w+)\.specs\.([\w.]+?)(?:\.\{([^}]*)\}| as (\w+))\s*$", re.M)
-BEGINS = re.compile(
-    r"^\s*(?:abbrev |unfoldable )?(?:pub )?(?:record |data )?(?:pub )?([A-Za-z_]\w*)\b"
-)
+BEGINS = re.compile(r"^\s*(?:abbrev |unfoldable )?(?:pub )?(?:record |data )?(?:pub )?([A-Za-z_]\w*)\b")
 WORD = re.compile(r"[A-Za-z_]\w*(?:\.[A-Za-z_]\w*)*")
 
 
@@ -46,11 +40,7 @@ class File:
 
     def __init__(self, crate, name):
         text = spec_path(crate, name).read_text(encoding="utf-8")
-        self.lines = [
-            line
-            for line in text.splitlines()
-            if line.strip() and not line.lstrip().startswith("use ")
-        ]
+        self.lines = [line for line in text.splitlines() if line.strip() and not line.lstrip().startswith("use ")]
         self.imports = {}  # by the name here: the crate, the file and the name there
         self.files = {}  # by the name of a whole file here: the crate and the file
         self.types = (
@@ -106,9 +96,7 @@ def names_in(lines):
         if record is not None and depth > record:
             continue
         record = depth if re.match(r"\s*(pub )?record\b", line) else None
-        if re.match(r"\s*(abbrev|unfoldable|pub|record|data)\b", line) and (
-            found := BEGINS.match(line)
-        ):
+        if re.match(r"\s*(abbrev|unfoldable|pub|record|data)\b", line) and (found := BEGINS.match(line)):
             yield found.group(1)
 
 
@@ -164,11 +152,7 @@ def lines_of(parts):
 def told(start):
     """The line of a definition. Error where it isn't there."""
     key = tuple(start.split("."))
-    if (
-        len(key) != 3
-        or not spec_path(*key[:2]).exists()
-        or key[2] not in File(*key[:2]).definitions
-    ):
+    if len(key) != 3 or not spec_path(*key[:2]).exists() or key[2] not in File(*key[:2]).definitions:
         raise Error(f"no definition {start}")
     files, names, types = reached(key)
     return (
@@ -248,17 +232,11 @@ def part(title, text, names, types):
     """A part of the page: its definitions file by file, then the types of the sources."""
     lines = [f"## {title}\n", textwrap.fill(text, 118) + "\n"]
     for (crate, module), ids in by_file(names).items():
-        lines += [
-            f"`crates/{crate}/specs/{module}.antt`\n",
-            code(definitions(crate, module, ids, names)),
-        ]
+        lines += [f"`crates/{crate}/specs/{module}.antt`\n", code(definitions(crate, module, ids, names))]
     lines += ["### Types of the sources\n"] if types else []
     for (crate, module), kinds in by_file(types).items():
         declared = [[*types[(crate, module, kind)], ""] for kind in kinds]
-        lines += [
-            f"`crates/{crate}/src/{module}.rt`\n",
-            code([line for each in declared for line in each][:-1]),
-        ]
+        lines += [f"`crates/{crate}/src/{module}.rt`\n", code([line for each in declared for line in each][:-1])]
     return lines
 
 

@@ -11,16 +11,9 @@ import sys
 
 from gpscover.command import measure, run_tool
 from gpscover.log import open_log
+from gpscover.drawn_regions import DIRECTIONS, box_polygons
 from gpscover.outline import outline
-from gpscover.pictures import (
-    DIRECTIONS,
-    EDGE_COLOUR,
-    EDGE_LINE_COLOUR,
-    PLACE_COLOUR,
-    box_polygons,
-    save,
-    tools,
-)
+from gpscover.plotting import EDGE_COLOUR, EDGE_LINE_COLOUR, PLACE_COLOUR, save, tools
 from gpscover.region import region_of, upward
 
 COLOURS = EDGE_COLOUR, "#9dc3e6"
@@ -37,9 +30,7 @@ def draw_panel(axes, collections, drawn, colour, pair):
     epoch, region = drawn
     first, second = (region.axes["east north up".split().index(name)] for name in pair)
     polygons = box_polygons(epoch.boxes, region.origin, first, second)
-    boxes = collections.PolyCollection(
-        polygons, facecolors=colour, edgecolors="#00000050", linewidths=0.1
-    )
+    boxes = collections.PolyCollection(polygons, facecolors=colour, edgecolors="#00000050", linewidths=0.1)
     axes.add_collection(boxes)
     axes.plot([0], [0], "+", color=PLACE_COLOUR, markersize=10, markeredgewidth=1.6)
     axes.autoscale_view()

@@ -2,7 +2,6 @@
 """Makes the tables of regions with a station beside the receiver, and of the receiver alone, where its place is known.
 
 usage: python3 -m tools.station_tables extents OBS NAV SETTINGS X Y Z [--station FILE] [--splits N ...] [--outliers Q ...]
-       python3 -m tools.station_tables faults OBS NAV SETTINGS X Y Z [--station FILE] [--metres M ...] [--every N]
        python3 -m tools.station_tables stands OBS NAV SETTINGS X Y Z [--station FILE] [--at N ...]
        python3 -m tools.station_tables parts OBS NAV SETTINGS X Y Z [--station FILE] [--again N] [--halvings N]
        python3 -m tools.station_tables places OBS NAV SETTINGS PLACES [--station FILE]
@@ -13,9 +12,6 @@ A receiver whose settings have a table [station] needs the station's FILE. X Y Z
 
 extents: for each number of splits and of outliers the mean extents along east, north and up in m, in how many epochs the
 place is in a kept box, how many regions reach the search box, and what `check` says.
-faults: each satellite of each N-th epoch in turn gets so many metres more and less, by 64 splits. In how many of these no
-position fits at q = 0, in how many `suspect` names this satellite at q = 1, in how many another, and in how many the
-place is held.
 stands: `track` at a speed of 0 and q = 0. Behind each of these epochs the extents, those of what the rows up to there
 allow together, and the sides of the box that is handed on; then in how many epochs the place is held, and what `retrack`
 says.
@@ -31,7 +27,6 @@ line.
 import argparse
 import itertools
 import random
-import re
 import tempfile
 from collections.abc import Iterable, Iterator
 from dataclasses import dataclass, replace
@@ -42,18 +37,17 @@ from gpscover import runs
 from gpscover.command import measure, run_tool
 from gpscover.errors import Error
 from gpscover.geodesy import Frame, Vector, dot
+from gpscover.integrity import is_held
 from gpscover.log import UM_PER_M, Box, Epoch, Row, epochs
 from gpscover.places import Meetings
 from gpscover.region import extent_along, half_sides, hull_of, offsets, reaches, region_of
 from gpscover.settings import Settings
-from gpscover.suspects import surely_broken
 from tools.exact_extents import linear_row
 
 HalfSpace = tuple[list[float], float]  # (a, b): the points x with a . x <= b
 MmBox = list[tuple[int, int]]  # the ends along each axis, in mm
 
 UM_PER_MM = 1000
-FAULTS_SPLITS = 64
 FAR_M = 1000.0  # within so much of the origin along each axis a linear program looks
 TINY = 1e-9
 
@@ -87,11 +81,6 @@ class Case:
         return replace(self, settings=replace(self.settings, search=search))
 
 
-def is_held(epoch: Epoch, place: Vector) -> bool:
-    """Whether a place is in a kept box of an epoch."""
-    return any(box.contains(place) for box in epoch.boxes)
-
-
 def words(lengths: Iterable[float]) -> str:
     """Lengths in m."""
     return ", ".join(f"{length:.1f}" for length in lengths)
@@ -118,63 +107,6 @@ def places(case: Case, args: argparse.Namespace, room: Path) -> Iterator[str]:
     at = [(epoch, listed.at(epoch.ps)) for epoch in found]
     held = sum(place is not None and is_held(epoch, place) for epoch, place in at)
     yield f"held in {held} of {len(found)} epochs, `check`: {said}"
-
-
-# ---- faults
-
-
-def parts_of(obs: str) -> tuple[str, list[str]]:
-    """The header of an observation file and its epochs."""
-    head, *blocks = re.split(r"(?m)^(?=>)", obs)
-    return head, blocks
-
-
-def longer(block: str, satellite: str, column: int, metres: float) -> str:
-    """An epoch in which a code of a satellite is longer."""
-
-    def changed(found: re.Match[str]) -> str:
-        line, at = found[0], 3 + 16 * column
-        return f"{line[:at]}{float(line[at:at + 14]) + metres:14.3f}{line[at + 14:]}"
-
-    return re.sub(rf"(?m)^{satellite}.*$", changed, block)
-
-
-def column_of(head: str, code: str) -> int:
-    """Which of the observations of GPS a code is, from 0, by the header."""
-    listed = re.findall(r"(?m)^(?:G  [ \d]{3}| {6})(.{52}).*SYS / # / OBS TYPES", head)
-    return " ".join(listed).split().index(code)
-
-
-def with_faults(
-    case: Case, metres: float, room: Path, every: int
-) -> Iterator[tuple[list[Epoch], list[Epoch], list[str]]]:
-    """For each satellite of an epoch in turn: the epochs at q = 0 and at q = 1, and whose code of each is changed."""
-    head, blocks = parts_of(case.obs.read_text(encoding="ascii"))
-    blocks, column = blocks[::every], column_of(head, case.settings.signal.codes[0])
-    changed = replace(case, obs=room / "changed.obs")
-    changed.obs.write_text(head + "".join(blocks), encoding="ascii")
-    seen = [[row.satellite for row in epoch.rows] for epoch in changed.searched(0, 1).found(room)[0]]
-    for turn in range(max(map(len, seen))):
-        some = [(block, names[turn]) for block, names in zip(blocks, seen) if turn < len(names)]
-        text = "".join(longer(block, name, column, metres) for block, name in some)
-        changed.obs.write_text(head + text, encoding="ascii")
-        none, one = (changed.searched(FAULTS_SPLITS, outliers).found(room)[0] for outliers in (0, 1))
-        yield none, one, [name for _, name in some]
-
-
-def faults(case: Case, args: argparse.Namespace, room: Path) -> Iterator[str]:
-    """A line for each amount of the fault."""
-    yield "| fault, m | faults | seen at q = 0 | named at q = 1 | another named | held at q = 1 |\n|---|---|---|---|---|---|"
-    for metres in args.metres:
-        tried = [it for sign in (metres, -metres) for it in with_faults(case, sign, room, args.every)]
-        none, one, names = ([it for part in side for it in part] for side in zip(*tried))
-        seen = sum(epoch.empty for epoch in none)
-        said = [surely_broken(epoch) if epoch.kept else [] for epoch in one]
-        named = sum(broken == [name] for broken, name in zip(said, names))
-        other = sum(bool(set(broken) - {name}) for broken, name in zip(said, names))
-        held = sum(is_held(epoch, args.place) for epoch in one)
-        shares = [f"{100 * count / len(names):.0f} %" for count in (seen, named)]
-        yield f"| {metres:g} | {len(names)} | {shares[0]} | {shares[1]} | {other} | {held} |"
 
 
 # ---- a receiver that stands
@@ -325,7 +257,7 @@ def arguments() -> argparse.Namespace:
     """The words of the command line."""
     parser = argparse.ArgumentParser(description=__doc__, formatter_class=argparse.RawDescriptionHelpFormatter)
     ways = parser.add_subparsers(required=True)
-    for do in (extents, faults, stands, parts, places):
+    for do in (extents, stands, parts, places):
         way = ways.add_parser(do.__name__)
         for name in ("obs", "nav", "settings"):
             way.add_argument(name, metavar=name.upper(), type=Path)
@@ -340,8 +272,6 @@ def arguments() -> argparse.Namespace:
         way.set_defaults(do=do)
     ways.choices["extents"].add_argument("--splits", type=int, nargs="+", default=[512, 64])
     ways.choices["extents"].add_argument("--outliers", type=int, nargs="+", default=[0, 1, 2, 3])
-    ways.choices["faults"].add_argument("--metres", type=measure, nargs="+", default=[3, 5, 8, 10, 15, 20, 40, 80])
-    ways.choices["faults"].add_argument("--every", type=int, default=12)
     ways.choices["stands"].add_argument("--at", type=int, nargs="+", default=[1, 10, 50, 100])
     ways.choices["parts"].add_argument("--again", type=int, default=0)
     ways.choices["parts"].add_argument("--halvings", type=int, default=2)

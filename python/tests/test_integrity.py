@@ -21,7 +21,7 @@ from made_logs import (
     written,
 )
 
-from gpscover import Error, geodesy, integrity, pictures, places, region, stanford, summary
+from gpscover import Error, drawn_regions, geodesy, integrity, pictures, places, region, stanford, summary
 from gpscover.log import epochs as read_epochs
 from gpscover.stanford import Judged
 
@@ -275,28 +275,28 @@ class TestPictures:
     def test_each_box_has_one_colour(self):
         for log in logs_with_places():
             for epoch in read_epochs(log):
-                kinds = pictures.box_kinds(epoch)
+                kinds = drawn_regions.box_kinds(epoch)
                 assert sum(len(boxes) for boxes, *_ in kinds) == len(epoch.kept)
-        cut, edge, inner = (boxes for boxes, *_ in pictures.box_kinds(epoch_of(PAVED)))
+        cut, edge, inner = (boxes for boxes, *_ in drawn_regions.box_kinds(epoch_of(PAVED)))
         assert (len(cut), len(edge), len(inner)) == (2, 0, 0)
-        cut, edge, inner = (boxes for boxes, *_ in pictures.box_kinds(epoch_of(WITHIN)))
+        cut, edge, inner = (boxes for boxes, *_ in drawn_regions.box_kinds(epoch_of(WITHIN)))
         assert (len(cut), len(edge), len(inner)) == (0, 1, 0)
 
     def test_the_title_says_the_splits_and_what_is_cut(self):
         for text, splits, is_cut in ((PAVED, 2, True), (WITHIN, 0, False)):
             epoch = epoch_of(text)
-            title = pictures.region_title(epoch, region.region_of(epoch))
+            title = drawn_regions.region_title(epoch, region.region_of(epoch))
             assert f"q = 1, {splits} splits\n" in title
             assert ("reaches the search box at -y -z +x +y +z: it may go on outside" in title) == is_cut
 
     def test_bands_of_epochs_that_are_cut_or_empty(self):
-        course = pictures.Course(places.Meetings(None, []), False)
+        course = drawn_regions.Course(places.Meetings(None, []), False)
         for epoch in read_epochs(RECORDED / "cres_2008.log"):
             course.add(epoch)
         assert course.title() == "8 epochs; 0 reach the search box, 2 are empty"
         assert course.empty == [False] * 6 + [True] * 2
-        assert pictures.edges_of([0, 2, 10]) == [(-1.0, 1.0), (1.0, 6.0), (6.0, 14.0)]
-        xs, lows, highs = pictures.bands([(0, 1), (1, 2), (2, 3)], [(5, 6)] * 3, [True, False, True])
+        assert drawn_regions.edges_of([0, 2, 10]) == [(-1.0, 1.0), (1.0, 6.0), (6.0, 14.0)]
+        xs, lows, highs = drawn_regions.bands([(0, 1), (1, 2), (2, 3)], [(5, 6)] * 3, [True, False, True])
         assert (xs, [low == 5 for low in lows]) == ((0, 1, 1, 2, 3), [True, True, False, True, True])
 
 

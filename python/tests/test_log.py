@@ -30,6 +30,11 @@ class TestLogs:
         assert boxes == [(third, False, (-5000000, 7000000)), (fourth, True, (-9000000, 2000000))]
         assert (epoch.outs, epoch.splits, epoch.outliers) == (1, 2, 1)
 
+    def test_lengths_are_told_in_metres(self):
+        _, kept = epoch_of(PAVED).kept
+        assert kept.box.to_metres() == ((6378137.000001, 20.0, -100.0), (6378237.0, 100.0, 50.0))
+        assert kept.clock.to_metres() == (-9.0, 2.0)
+
     def test_all_versions_are_read(self):
         for version in "234":
             assert epochs_of(PAVED) == epochs_of(PAVED, HEAD.replace("gpscover 1", f"gpscover {version}"))

@@ -7,7 +7,7 @@ from pathlib import Path
 import pytest
 from made_logs import HEAD, LOST, PAVED, RECORDED, TUBE, ended_with, epoch_of, written
 
-from gpscover import Error, pictures, places, region
+from gpscover import Error, drawn_answers, drawn_regions, pictures, places, plotting, region
 from gpscover.log import epochs as read_epochs
 
 
@@ -30,21 +30,25 @@ class TestPictures:
             east, north, up = found.axes
             boxes = [kept.box for kept in epoch.kept]
             for first, second, across in ((east, north, up), (east, up, north)):
-                drawn = pictures.box_polygons(boxes, found.origin, first, second)
+                drawn = drawn_regions.box_polygons(boxes, found.origin, first, second)
                 for box, polygon in zip(boxes, drawn):
                     assert area(polygon.tolist()) == pytest.approx(shadow(box, across), rel=0, abs=5e-4)
 
     def test_the_drawn_boxes_reach_as_far_as_the_extents(self):
         for epoch in read_epochs(RECORDED / "ubx_2008.log"):
             found = region.region_of(epoch)
-            drawn = pictures.box_polygons([kept.box for kept in epoch.kept], found.origin, found.axes[0], found.axes[2])
+            drawn = drawn_regions.box_polygons(
+                [kept.box for kept in epoch.kept], found.origin, found.axes[0], found.axes[2]
+            )
             for k, extent in ((0, found.extents[0]), (1, found.extents[2])):
                 assert drawn[..., k].min() == pytest.approx(extent[0], rel=0, abs=5e-6)
                 assert drawn[..., k].max() == pytest.approx(extent[1], rel=0, abs=5e-6)
 
     def test_both_panels_have_one_scale(self):
-        pyplot, _ = pictures.tools()
-        figure, both = pictures.panels_at_one_scale(pyplot, {"east": (-20, 30), "north": (-60, 10), "up": (-5, 110)})
+        pyplot, _ = plotting.tools()
+        figure, both = drawn_regions.panels_at_one_scale(
+            pyplot, {"east": (-20, 30), "north": (-60, 10), "up": (-5, 110)}
+        )
         size = figure.get_size_inches()
         scales = []
         for axes, tall in zip(both, (70, 115)):
@@ -78,11 +82,11 @@ class TestPictures:
 
     def test_the_title_has_the_extents(self):
         epoch = epoch_of(PAVED)
-        assert "east 200.0 m, north 200.0 m, up 100.0 m" in pictures.region_title(epoch, region.region_of(epoch))
+        assert "east 200.0 m, north 200.0 m, up 100.0 m" in drawn_regions.region_title(epoch, region.region_of(epoch))
 
     def test_an_epoch_without_a_region_is_refused(self):
         with pytest.raises(Error, match="it is empty"):
-            pictures.chosen_epoch(RECORDED / "cres_2008.log", 8)
+            drawn_regions.chosen_epoch(RECORDED / "cres_2008.log", 8)
 
 
 # A box, a prism without corners, and a direction.
@@ -92,7 +96,7 @@ FENCES = "gpszones 2\nzone a 6378136000000 -20000000 -30000000 6378138000000 200
 class TestPicturedZones:
     def fenced(self, text, names=()):
         with written(log=HEAD + text, zones=FENCES) as (path, fences):
-            found = pictures.Fenced(pictures.fences_of([fences], names), places.Meetings(None, []))
+            found = drawn_answers.Fenced(drawn_answers.fences_of([fences], names), places.Meetings(None, []))
             for epoch in read_epochs(path):
                 found.add(epoch)
         return found
@@ -114,13 +118,13 @@ class TestPicturedZones:
             self.fenced(TUBE, ["d"])
         many = "gpszones 1\n" + "".join(f"zone a{k} 0 0 0 1 1 1\n" for k in range(7))
         with written(zones=many) as (fences,), pytest.raises(Error, match="7 zones"):
-            pictures.fences_of([fences], [])
+            drawn_answers.fences_of([fences], [])
 
 
 class TestPicturedTracks:
     def tube(self, text, known=()):
         with written(log=HEAD + text) as (path,):
-            return pictures.tube_of(path, places.Meetings("known", list(known)))
+            return drawn_regions.tube_of(path, places.Meetings("known", list(known)))
 
     def test_its_outlines_places_and_the_search_box_where_it_is_lost(self):
         tube = self.tube(TUBE + LOST, [(895816770999 * 10**9, (6378137.0, 28.0, 4.0))])
@@ -134,7 +138,7 @@ class TestPicturedTracks:
         assert self.tube(TUBE).title() == "2 epochs, 2 with a region"
 
     def test_the_last_outline_is_drawn_of_many(self):
-        tube = pictures.Tube(places.Meetings(None, []))
+        tube = drawn_regions.Tube(places.Meetings(None, []))
         for count, first, drawn in ((60, 0, 60), (61, 0, 31), (62, 1, 31), (312, 5, 52)):
             tube.rings = list(range(count))
             assert (tube.drawn()[0], tube.drawn()[-1], len(tube.drawn())) == (first, count - 1, drawn)

@@ -2,6 +2,8 @@
 
 import os
 import re
+import sys
+from types import SimpleNamespace
 
 import pytest
 from made_logs import EXAMPLES
@@ -61,6 +63,22 @@ def test_a_yes_has_as_many_boxes_as_the_log(settings, log):
     wanted = gpscover.Verdict(True, boxes)
     assert gpscover.check(*FILES, settings, log, last=2) == wanted
     assert gpscover.judge(log) == wanted
+
+
+def test_a_bar_steps_at_a_terminal_alone(monkeypatch):
+    seen = []
+    bar = SimpleNamespace(update=seen.append)
+    monkeypatch.setitem(
+        sys.modules, "tqdm", SimpleNamespace(tqdm=lambda total, unit: seen.append((total, unit)) or bar)
+    )
+    monkeypatch.setattr(sys, "stderr", SimpleNamespace(isatty=lambda: False))
+    assert gpscover.progress_bar(4) is None
+    monkeypatch.setattr(sys, "stderr", SimpleNamespace(isatty=lambda: True))
+    for index in 7, 9:
+        gpscover.progress_bar(4)(index)
+    assert seen == [(4, "epoch"), 1] * 2
+    monkeypatch.setitem(sys.modules, "tqdm", None)
+    assert gpscover.progress_bar(4) is None
 
 
 def test_a_no_is_no_yes(settings, log):

@@ -12,9 +12,11 @@ from gpscover import Box, suspects
 
 STUB = """#!/usr/bin/env python3
 import sys
-words = sys.argv[6:]
-assert words[:2] == ["--station", "c"] or words[:1] in ([], ["--from"])
-settings = open(sys.argv[4]).read()
+at = sys.argv.index("--")
+options, (_, _, settings, log) = sys.argv[2:at], sys.argv[at + 1 :]
+assert options.pop() == "--quiet"
+assert options[-2:] == ["--station", "c"] or options[:1] in ([], ["--from"])
+settings = open(settings).read()
 assert "outliers = 0" in settings
 opened = {name for name in ("G03", "G04", "G05") if f"{name} = [-1000000, 1000000]" in settings}
 sats = "".join(f"sat G0{k} 0 0 0 0 0 0 0 0 0 0\\n" for k in (3, 4, 5))
@@ -22,7 +24,7 @@ needed = {1: {"G03"}, 2: set(), 3: {"G04", "G05"}}
 for index in needed:
     kept = "edge 0 0 0" if needed[index] <= opened else "out 0"
     block = f"epoch {index} {index} 3\\n{sats}root 0 0 0 1 1 1\\n{kept}\\ndone 0\\n"
-    open(sys.argv[5], "w" if index == 1 else "a").write(("gpscover 1\\nrules 0 0 1000\\n" if index == 1 else "") + block)
+    open(log, "w" if index == 1 else "a").write(("gpscover 1\\nrules 0 0 1000\\n" if index == 1 else "") + block)
 """
 
 

@@ -129,6 +129,11 @@ class Pair:
             print(f"    program {theirs}\n    recheck {own}" + (f"\n    {note}" if note else ""), flush=True)
         return theirs
 
+    def compare_both(self, log, tally, name):
+        """Compares both answers to a log that is checked, and to one that is judged."""
+        for judge in (False, True):
+            self.compare(log, tally, name, judge)
+
     def kind(self, theirs, own, walker):
         """Of which kind a pair of answers is, and a remark."""
         if theirs == own:
@@ -167,8 +172,7 @@ def recorded(arguments, directory):
     """Each recorded pair: solved by the program, then checked and judged by both."""
     tally = Tally("recorded pairs")
     rinex = arguments.data / "rinex"
-    print("| recorded pair | epochs | rows | lines of the log | verdict of both | recheck, s | rows in 1 s |\n"
-          "|---|---|---|---|---|---|---|")
+    print("| recorded pair | epochs | rows | lines of the log | verdict of both | recheck, s | rows in 1 s |\n" "|---|---|---|---|---|---|---|")
     for settings in sorted(rinex.glob("*.toml")):
         base = settings.stem.rsplit("_", 1)[0]
         pairs = [(base, base)] + [(base + "_crlf", base + "_crlf")] * (rinex / f"{base}_crlf.obs").exists()
@@ -216,8 +220,7 @@ def own_rows(pair, log):
                 room = pair.files.rooms(box)[place]
                 theirs = low + room, high - room
                 if not fits_own(mine, theirs, room):
-                    print(f"  different: own spans of epoch {epoch.index} satellite {satellite.decode()}: {mine} and "
-                          f"{theirs}, {'WG'[place > 3]} {room}")
+                    print(f"  different: own spans of epoch {epoch.index} satellite {satellite.decode()}: {mine} and " f"{theirs}, {'WG'[place > 3]} {room}")
     return rows, spent or 1.0
 
 
@@ -304,10 +307,8 @@ def logs(arguments, directory):
             continue
         pair.own_answer(log)
         for change, changed in log_changes(log, (pair.files.room, pair.files.bound_room)):
-            pair.compare(changed, tally, change)
-            pair.compare(changed, tally, change, judge=True)
+            pair.compare_both(changed, tally, change)
         tallies.append(tally)
-        print("answers of the program:", dict(sorted(tally.answers.items())), flush=True)
     return tallies
 
 
@@ -337,7 +338,6 @@ def tracks(arguments, directory):
             if max(first, second) < len(blocks):
                 pair.compare(head + blocks[first] + blocks[second], tally, f"blocks {first} and {second}")
         tallies.append(tally)
-        print("answers of the program:", dict(sorted(tally.answers.items())), flush=True)
     return tallies
 
 
@@ -353,7 +353,6 @@ def page(arguments, directory):
         changes = [*changed_logs.number_changes(lines), *changed_logs.line_changes(lines)]
         for number, (*what, changed) in enumerate(changes):
             pair.compare("".join(line + "\n" for line in changed).encode(), tally, f"{name} {number} {what}")
-    print("answers of the program:", dict(sorted(tally.answers.items())))
     return tally
 
 
@@ -362,25 +361,22 @@ def cuts(arguments, directory):
     chance = random.Random(arguments.seed)
     pavings, put, small = Tally("pavings with cuts"), Tally("cuts put into logs"), Tally("changed: logs with `cut`")
     pair, lines = Pair(arguments.program, directory), 0
-    for number, contents in enumerate([small_files(8)] + bases(arguments.data)):
+    for number, contents in enumerate([small_files(8), *bases(arguments.data)]):
         pair.write(contents)
         _, log = pair.solve()
         for _ in range(10):
             paving, many = log_with_cuts(chance, log)
             lines += many
-            for judge in (False, True):
-                pair.compare(paving, pavings, f"paving of files {number}", judge)
+            pair.compare_both(paving, pavings, f"paving of files {number}")
         for base in (log, paving):
             for name, changed in with_cuts(chance, base, arguments.draws // 10):
-                for judge in (False, True):
-                    pair.compare(changed, put, f"files {number}, {name}", judge)
+                pair.compare_both(changed, put, f"files {number}, {name}")
     pair.write(small_files(2))
     paving, _ = log_with_cuts(chance, pair.solve()[1])
     pair.own_answer(paving)
     words = (b"root", b"cut", b"split", b"out", b"edge", b"done")
     for change, changed in log_changes(paving, (pair.files.room,), words):
-        for judge in (False, True):
-            pair.compare(changed, small, f"paving of small files, {change}", judge)
+        pair.compare_both(changed, small, f"paving of small files, {change}")
     print("log of four satellites with `cut`: recheck says", pair.own_answer(cut_log(), True)[0])
     for change, changed in log_changes(cut_log(), (10_000,)):
         pair.compare(changed, small, change, judge=True)
@@ -389,8 +385,6 @@ def cuts(arguments, directory):
         paving, many = log_with_cuts(chance, shortened(pair.log.read_bytes(), 3, 30))
         lines += many
         pair.compare(paving, pavings, f"paving of {path.name}", judge=True)
-    for tally in (pavings, put, small):
-        print(f"{tally.part}: answers of the program:", dict(sorted(tally.answers.items())))
     print("pavings with cuts:", lines, "cuts")
     return [pavings, put, small]
 
@@ -405,18 +399,14 @@ def renewals(arguments, directory):
         _, log = pair.solve()
         pair.own_answer(log)
         for name, changed in with_renewals(chance, log, arguments.draws // 10, pair.files):
-            for judge in (False, True):
-                pair.compare(changed, put, f"files {number}, {name}", judge)
+            pair.compare_both(changed, put, f"files {number}, {name}")
     pair.write(small_files(2))
     _, log = pair.solve()
     pair.own_answer(log)
     made = [changed for name, changed in with_renewals(chance, log, 40, pair.files) if name.endswith("the hull, own rows")]
     accepted = next(log for log in made if pair.own_answer(log)[0][0] == 0)
     for change, changed in log_changes(accepted, (pair.files.room,), (b"gpscover", b"renew", b"sat", b"done")):
-        for judge in (False, True):
-            pair.compare(changed, small, change, judge)
-    for tally in (put, small):
-        print(f"{tally.part}: answers of the program:", dict(sorted(tally.answers.items())))
+        pair.compare_both(changed, small, change)
     return [put, small]
 
 
@@ -442,10 +432,7 @@ def bounds(arguments, directory):
     made = with_bounds(chance, pair.solve()[1], 40)
     accepted = next(log for name, log in made if "not renewed" in name and pair.own_answer(log)[0][0] == 0)
     for change, changed in log_changes(accepted, (pair.files.room,), (b"gpscover", b"epoch", b"done", b"bound", b"by")):
-        for judge in (False, True):
-            pair.compare(changed, small, change, judge)
-    for tally in (alone, put, small):
-        print(f"{tally.part}: answers of the program:", dict(sorted(tally.answers.items())))
+        pair.compare_both(changed, small, change)
     return [alone, put, small]
 
 
@@ -659,7 +646,7 @@ def drawn(arguments, directory):
         name, changed[role] = changed_file(chance, contents[role])
         solved[role] += compare_files(pair, changed, log, tallies[role], f"draw {number}, {name}")
     for tally, acceptable in zip(tallies, solved):
-        print(f"{tally.part}: {acceptable} acceptable; answers of the program:", dict(sorted(tally.answers.items())))
+        print(f"{tally.part}: {acceptable} acceptable")
     return tallies
 
 
@@ -734,7 +721,7 @@ def rows(arguments, directory):
                 continue
             pair.compare(b"\n".join(lines[:at] + [changed] + lines[at + 1:]) + b"\n", tally,
                          f"drawn rows {number}, line {at + 1}: {match.group()} {step:+d}", judge=True)
-    print("drawn rows:", inner, "`in` lines; answers of the program:", dict(sorted(tally.answers.items())))
+    print("drawn rows:", inner, "`in` lines")
     return tally
 
 
@@ -885,7 +872,6 @@ def cases(arguments, directory):
     tally = Tally("named cases")
     for name, changed in named_cases(contents):
         compare_files(pair, changed, log, tally, name)
-    print("answers of the program:", dict(sorted(tally.answers.items())))
     return [tally, command_lines(arguments, directory, contents, log)]
 
 
@@ -906,7 +892,10 @@ def main():
         for part in arguments.part or PARTS:
             start = time.time()
             result = globals()[part](arguments, directory)
-            table += result if isinstance(result, list) else [result]
+            tallies = result if isinstance(result, list) else [result]
+            for tally in tallies:
+                print(f"{tally.part}: answers of the program: {dict(sorted(tally.answers.items()))}")
+            table += tallies
             print(f"{part}: {time.time() - start:.0f} s", flush=True)
     finally:
         shutil.rmtree(directory)

@@ -122,9 +122,7 @@ def main():
         _, width, room = max(drawn.widths)
         bound = max(drawn.bound_widths, default=None)
         mapped = f", of a bound {bound[1]} um of G {bound[2]} um" if bound else ""
-        print(f"rows {drawn.rows}, numbers outside {drawn.outside}, files not solved {drawn.unsolved}; the greatest width"
-              f" {width} um of W {room} um{mapped}, distances from {min(drawn.distances) // 10**9} to"
-              f" {max(drawn.distances) // 10**9} km, eccentricities up to {float(max(drawn.eccentricities))}")
+        print(f"rows {drawn.rows}, numbers outside {drawn.outside}, files not solved {drawn.unsolved}; the greatest width" f" {width} um of W {room} um{mapped}, distances from {min(drawn.distances) // 10**9} to" f" {max(drawn.distances) // 10**9} km, eccentricities up to {float(max(drawn.eccentricities))}")
     sys.exit(1 if drawn.outside or drawn.unsolved or not drawn.rows else 0)
 
 

@@ -29,7 +29,7 @@ from pathlib import Path
 
 from gpscover.command import run_tool
 from gpscover.errors import Error
-from gpscover.log import UM_PER_M, epochs
+from gpscover.log import epochs
 from tools.made.orbits import LIGHT, Record, turned
 
 # What is the same in all made records, in s, m^(1/2) and rad. Their satellites' axes, planes and clocks follow.
@@ -211,13 +211,9 @@ def run(words):
     return ran.stdout
 
 
-def is_held(epoch, receiver):
-    """Whether the place is in a kept box of the epoch whose clock span holds 0."""
-    place = [axis * UM_PER_M for axis in receiver]
-    return any(
-        all(kept.box[k] <= place[k] <= kept.box[k + 3] for k in range(3)) and kept.clock[0] <= 0 <= kept.clock[1]
-        for kept in epoch.kept
-    )
+def is_held(epoch, receiver, offset=0):
+    """Whether the place is in a kept box of the epoch whose clock span holds an offset in um."""
+    return any(kept.box.contains(receiver) and kept.clock.low <= offset <= kept.clock.high for kept in epoch.kept)
 
 
 def sums(report):

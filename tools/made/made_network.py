@@ -18,15 +18,13 @@ import gzip
 import math
 import random
 import re
-import sys
 from pathlib import Path
 
 ROOT = Path(__file__).resolve().parents[2]
 
 from gpscover.command import run_tool
-from gpscover.bounds import ionosphere_mapping, troposphere_mapping
-from tools.made.orbits import EPOCH, LIGHT, Record, number, turned
 from gpscover.geodesy import elevation
+from tools.made.orbits import EPOCH, Record, arrival, delay, number
 
 PLACES = {
     "ALFA": (-3869310.320, 3436566.110, 3717366.550),
@@ -34,7 +32,7 @@ PLACES = {
     "GAMA": (-3826900.000, 3512700.000, 3689600.000),
 }
 FIRST_DAY, FIRST_HOUR = datetime.datetime(2008, 5, 26), 4
-TROPOSPHERE, IONOSPHERE, SHELL_KM, NOISE = 2.4, 4.0, 350, 2.0
+NOISE = 2.0
 MASK = math.radians(5)
 OBS_HEAD = [
     ("     3.04           OBSERVATION DATA    G: GPS", "RINEX VERSION / TYPE"),
@@ -66,6 +64,12 @@ zenith = [1950, 2650]
 """
 
 
+def example_records():
+    """The header of the example's navigation file, and the newest record of each satellite of GPS."""
+    head, *texts = re.split(r"(?m)^(?=[A-Z]\d\d )", (ROOT / "examples/receiver.nav").read_text(encoding="ascii"))
+    return head, {text[:3]: text for text in texts if text.startswith("G")}
+
+
 def place_of(index):
     """The name and the place of a station: named ones first, then others on a line, which all have height ALFA's."""
     if index < len(PLACES):
@@ -89,27 +93,32 @@ def moved(record, days):
 
 def code(record, place, time, draw):
     """A pseudorange in m, or None where the satellite is too low."""
-    flight = 0.075
-    for _ in range(3):
-        sent, clock = record.at(time - flight)
-        there = turned(sent, flight)
-        flight = math.dist(there, place) / LIGHT
+    there, metres = arrival(record, place, time)
     angle = elevation(place, there)
-    air = TROPOSPHERE * troposphere_mapping(angle) + IONOSPHERE * ionosphere_mapping(angle, SHELL_KM)
-    return LIGHT * (flight - clock) + air + draw.uniform(-NOISE, NOISE) if angle > MASK else None
+    return metres + delay(angle) + draw.uniform(-NOISE, NOISE) if angle > MASK else None
+
+
+def head_lines(place, start):
+    """The header of an observation file."""
+    filled = [OBS_HEAD[0][0], OBS_HEAD[1][0].format(*place), OBS_HEAD[2][0], OBS_HEAD[3][0].format(start, 0.0), ""]
+    return [f"{text:60}{label}" for text, (_, label) in zip(filled, OBS_HEAD)]
+
+
+def epoch_line(date, count):
+    """The first line of an epoch of so many satellites."""
+    return f"> {date:%Y %m %d %H %M}{date.second:11.7f}  0{count:3}"
 
 
 def observations(place, start, records, args, seed):
     """The text of a day of a station."""
     draw = random.Random(seed)
-    filled = [OBS_HEAD[0][0], OBS_HEAD[1][0].format(*place), OBS_HEAD[2][0], OBS_HEAD[3][0].format(start, 0.0), ""]
-    lines = [f"{text:60}{label}" for text, (_, label) in zip(filled, OBS_HEAD)]
+    lines = head_lines(place, start)
     for index in range(args.epochs):
         date = start + datetime.timedelta(seconds=args.step * index)
         time = (date - EPOCH).total_seconds()
         codes = [(record.satellite, code(record, place, time, draw)) for record in records]
         seen = [f"{satellite}{metres:14.3f}" for satellite, metres in codes if metres is not None]
-        lines += [f"> {date:%Y %m %d %H %M}{date.second:11.7f}  0{len(seen):3}", *seen]
+        lines += [epoch_line(date, len(seen)), *seen]
     return "\n".join(lines) + "\n"
 
 
@@ -130,8 +139,7 @@ def main():
     folder = Path(args.folder)
     folder.mkdir(parents=True, exist_ok=True)
     (folder / "settings.toml").write_text(SETTINGS, encoding="ascii")
-    head, *texts = re.split(r"(?m)^(?=[A-Z]\d\d )", (ROOT / "examples/receiver.nav").read_text())
-    newest = {text[:3]: text for text in texts if text.startswith("G")}
+    head, newest = example_records()
     stations = [place_of(index) for index in range(args.stations)]
     table = [f"  {name}: {{place: [{', '.join(f'{at:.3f}' for at in place)}]}}\n" for name, place in stations]
     (folder / "stations.yaml").write_text("stations:\n" + "".join(table), encoding="ascii")

@@ -21,7 +21,6 @@ import argparse
 import datetime
 import math
 import random
-import re
 from collections.abc import Callable, Iterator
 from pathlib import Path
 
@@ -29,8 +28,8 @@ from gpscover.bounds import ionosphere_mapping, troposphere_mapping
 from gpscover.command import run_tool
 from gpscover.geodesy import SEMI_MAJOR_M, Vector, earth_fixed, elevation, geodetic
 from gpscover.settings import Bounds, Search, Settings, Signal, Station
-from tools.made.made_network import IONOSPHERE, OBS_HEAD, PLACES, ROOT, SHELL_KM, TROPOSPHERE
-from tools.made.orbits import EPOCH, LIGHT, Record, turned
+from tools.made.made_network import PLACES, epoch_line, example_records, head_lines
+from tools.made.orbits import EPOCH, IONOSPHERE, LIGHT, SHELL_KM, TROPOSPHERE, Record, arrival, delay
 
 PLACE: Vector = PLACES["ALFA"]
 START, STEP = datetime.datetime(2008, 5, 26, 6), 60  # s between epochs
@@ -52,26 +51,20 @@ class Sky:
     def codes(self, place: Vector, time: float, overhead: float, draw: random.Random) -> Iterator[tuple[str, float]]:
         """The pseudoranges in m at a place and a time, with so much ionosphere overhead."""
         for record, (x, y, z, late) in zip(self.records, self.off):
-            flight, there = 0.075, PLACE
-            for _ in range(4):
-                sent, clock = record.at(time - flight)
-                there = turned((sent[0] + x, sent[1] + y, sent[2] + z), flight)
-                flight = math.dist(there, place) / LIGHT
+            there, metres = arrival(record, place, time, (x, y, z))
             angle = elevation(place, there)
             if angle > MASK:
-                air = TROPOSPHERE * troposphere_mapping(angle) + overhead * ionosphere_mapping(angle, SHELL_KM)
-                yield record.satellite, LIGHT * (flight - clock) + late + air + draw.uniform(-NOISE, NOISE)
+                yield record.satellite, metres + late + delay(angle, overhead) + draw.uniform(-NOISE, NOISE)
 
 
 def observations(sky: Sky, place: Vector, overhead: float, ahead: float, count: int, seed: int) -> str:
     """The text of an observation file, by a clock that is so many s ahead."""
     draw = random.Random(seed)
-    filled = [OBS_HEAD[0][0], OBS_HEAD[1][0].format(*place), OBS_HEAD[2][0], OBS_HEAD[3][0].format(START, 0.0), ""]
-    lines = [f"{text:60}{label}" for text, (_, label) in zip(filled, OBS_HEAD)]
+    lines = head_lines(place, START)
     for index in range(count):
         date = START + datetime.timedelta(seconds=STEP * index)
         codes = list(sky.codes(place, (date - EPOCH).total_seconds() - ahead, overhead, draw))
-        lines.append(f"> {date:%Y %m %d %H %M}{date.second:11.7f}  0{len(codes):3}")
+        lines.append(epoch_line(date, len(codes)))
         lines += [f"{satellite}{code + LIGHT * ahead:14.3f}" for satellite, code in codes]
     return "\n".join(lines) + "\n"
 
@@ -125,9 +118,7 @@ def station_place(km: float) -> Vector:
 
 def write(folder: Path, distances: list[float], count: int) -> None:
     """Writes all files."""
-    nav = (ROOT / "examples/receiver.nav").read_text(encoding="ascii")
-    head, *texts = re.split(r"(?m)^(?=[A-Z]\d\d )", nav)
-    newest = {text[:3]: text for text in texts if text.startswith("G")}
+    head, newest = example_records()
     sky = Sky([Record(text) for text in newest.values()], random.Random(0))
     files = {
         "receiver.nav": head + "".join(newest.values()),

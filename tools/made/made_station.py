@@ -13,11 +13,12 @@ Exit status: 0; 1 where a run fails or the place isn't held; 2 for a wrong comma
 from gpscover.command import run_tool
 from gpscover.errors import Error
 from gpscover.log import UM_PER_M, epochs
-from tools.made.made_files import LABELS, NOISE_MM, Made, draws, epoch_lines, main, run, solve
+from tools.made.made_files import LABELS, NOISE_MM, Made, draws, epoch_lines, is_held, main, run, solve
 from tools.made.orbits import LIGHT
 
 ASIDE = (1500, -2000, 1000)  # from the receiver to the station, m
 CLOCK_MM = round(LIGHT)  # 1 ms, as light goes
+OFFSET = -CLOCK_MM * UM_PER_M // 1000  # the receiver's clock less the station's, um
 AGE = 30
 
 
@@ -56,19 +57,13 @@ class MadeWithStation(Made):
         }
 
 
-def is_held(epoch, receiver):
-    """Whether the place is in a kept box of the epoch whose clock span holds -1 ms."""
-    offset = -CLOCK_MM * UM_PER_M // 1000
-    return any(kept.box.contains(receiver) and kept.clock.low <= offset <= kept.clock.high for kept in epoch.kept)
-
-
 def solve_and_check(program, folder, seed, count):
     """Writes the files into a folder, runs the program on them, and gives the lines to print."""
     made = MadeWithStation(seed, count)
     station = ["--station", str(folder / "made.sta")]
     _, files = solve(program, folder, made.texts(), station)
     verdict = run([program, "check", *files, *station])
-    lost = [epoch.index for epoch in epochs(files[-1]) if not is_held(epoch, made.receiver)]
+    lost = [epoch.index for epoch in epochs(files[-1]) if not is_held(epoch, made.receiver, OFFSET)]
     if lost:
         raise Error(f"these epochs don't hold the place: {lost}")
     return f"{verdict}the place is held in each epoch"

@@ -7,6 +7,8 @@ angles in rad; places are in the frame that turns with the earth.
 import datetime
 import math
 
+from gpscover.bounds import ionosphere_mapping, troposphere_mapping
+
 LIGHT = 299792458.0  # m/s
 TURN = 7.2921151467e-5  # of the earth, rad/s
 # By the letter of the system: of the earth's mass in m^3/s^2, and of a clock on an ellipse in s/m^(1/2).
@@ -14,6 +16,8 @@ MASS = {"G": 3.986005e14, "E": 3.986004418e14}
 RELATIVITY = {"G": -4.442807633e-10, "E": -4.442807309e-10}
 WEEK = 604800
 EPOCH = datetime.datetime(1980, 1, 6)
+# What made air delays signals from overhead, in m, and the height of the ionosphere's shell in km.
+TROPOSPHERE, IONOSPHERE, SHELL_KM = 2.4, 4.0, 350
 INAV_CLOCK = 1 << 9  # the bit of a Galileo record's data source: a clock for E1 and E5b
 
 
@@ -74,3 +78,19 @@ class Record:
     def at(self, time):
         """The same at a time of GPS."""
         return self.after(time - self.toe)
+
+
+def arrival(record, place, time, off=(0.0, 0.0, 0.0)):
+    """Whence a signal comes that arrives at a place and a time, in the frame of the arrival, and its pseudorange in vacuo,
+    of a satellite that is so far off its ephemeris."""
+    flight, there = 0.075, place
+    for _ in range(4):
+        sent, clock = record.at(time - flight)
+        there = turned([part + more for part, more in zip(sent, off)], flight)
+        flight = math.dist(there, place) / LIGHT
+    return there, LIGHT * (flight - clock)
+
+
+def delay(angle, ionosphere=IONOSPHERE):
+    """By how many m the air delays a signal at an elevation, with so much of the ionosphere overhead."""
+    return TROPOSPHERE * troposphere_mapping(angle) + ionosphere * ionosphere_mapping(angle, SHELL_KM)

@@ -1,4 +1,10 @@
-"""What the tests of the built program share: its usage, its limits, and the files of a day."""
+"""What tests of tools and of the built program share: how a tool ends, the usage and limits, and the files of a day."""
+import contextlib
+import io
+import sys
+from unittest import mock
+
+from gpscover import command
 
 USAGE = (
     b"usage: gpscover judge LOG, pave ROWS LOG, "
@@ -68,3 +74,16 @@ ionosphere = [0, 20000]
 troposphere = [2000, 25000]
 """,
 }
+
+
+def ended(tool, *words):
+    """The status with which a tool ends on these words, and what it prints on both streams. What it doesn't tell by a line
+    of its own is raised."""
+    out, err = io.StringIO(), io.StringIO()
+    name = tool.__name__.rpartition(".")[2]
+    with mock.patch.object(sys, "argv", [f"{name}.py", *map(str, words)]), mock.patch("gpscover.command.drop_output"):
+        with contextlib.redirect_stdout(out), contextlib.redirect_stderr(err):
+            try:
+                command.run_tool(tool.main)
+            except SystemExit as end:
+                return end.code or 0, out.getvalue(), err.getvalue()

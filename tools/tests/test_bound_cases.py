@@ -22,10 +22,7 @@ def exact(at):
 
 
 # Four satellites on the x axis and on the y axis, on both sides, each of which bounds the offset by 10 um.
-CROSS = [
-    Form([SCALE * x, SCALE * y, 0], 10 * SCALE, -10 * SCALE)
-    for x, y in ((1, 0), (-1, 0), (0, 1), (0, -1))
-]
+CROSS = [Form([SCALE * x, SCALE * y, 0], 10 * SCALE, -10 * SCALE) for x, y in ((1, 0), (-1, 0), (0, 1), (0, -1))]
 BOX = Box(-100, -100, -100, 100, 100, 100)
 
 
@@ -33,9 +30,7 @@ class TestDefinitions:
     def test_the_form_of_a_row_along_an_axis(self):
         # v = (-3, 0, 0), so that A is 4; most = 4 (7 + 1 + 1) - 9 and least = 8 (5 - 2) - (16 + 9 + 3): the sides of the
         # box are 2 long, and 1 is from their middle to the high end.
-        row = Row(
-            "G01", (exact(4), exact(1), exact(1)), Interval(5, 7), Interval(-1, 2), Interval(-1, 2)
-        )
+        row = Row("G01", (exact(4), exact(1), exact(1)), Interval(5, 7), Interval(-1, 2), Interval(-1, 2))
         one = bound_cases.form(row, Box(0, 0, 0, 2, 2, 2))
         assert one == Form([-3 * SCALE // 4, 0, 0], 27 * SCALE // 4 + 3, -4 * SCALE // 8 - 3)
 
@@ -49,10 +44,7 @@ class TestDefinitions:
     def test_a_sum_that_leaves_the_offset_in_or_has_no_row_is_none(self):
         assert bound_cases.added(CROSS, [(0, 1), (1, 1)]) is None
         assert bound_cases.added(CROSS, [(0, 1), (4, -1)]) is None
-        assert (
-            bound_cases.added([CROSS[0]._replace(upper=10**30 + 1), CROSS[1]], [(0, 1), (1, -1)])
-            is None
-        )
+        assert bound_cases.added([CROSS[0]._replace(upper=10**30 + 1), CROSS[1]], [(0, 1), (1, -1)]) is None
         assert bound_cases.added([CROSS[0]._replace(upper=10**30), CROSS[1]], [(0, 1), (1, -1)])
         assert bound_cases.added(CROSS, [(0, 1), (1, -1)]) == ([2 * SCALE, 0, 0], 20 * SCALE)
 
@@ -106,9 +98,7 @@ class TestRegion:
 
 class TestTable:
     def made(self, *words):
-        return bound_cases.table_of(
-            bound_cases.arguments().parse_args([*words, "cases", "answers"])
-        )
+        return bound_cases.table_of(bound_cases.arguments().parse_args([*words, "cases", "answers"]))
 
     def test_the_table_of_the_crate_is_the_one_that_is_made(self):
         words = [*WORDS, "cases", "answers", str(LOG)]

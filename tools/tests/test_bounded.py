@@ -3,17 +3,16 @@ import math
 import random
 
 import pytest
+from made_logs import EXAMPLES, RECORDED
 
 from gpscover import bound_search, bounded, region, row_sums
 from gpscover.geodesy import whole_product
 from gpscover.log import Box, epochs
 from tools.bound_cases import Region, any_box, any_row, form, made_rows
 from tools.forged_logs import BOX, CUTS_LEAVE, DATA, put, renewal, text, with_renewals
-from tools.tests.logs import TOP
 from tools.tests.test_forged_bounds import second
 
 LOG = DATA / "receiver.log"
-EXAMPLES, RECORDED = TOP / "examples", TOP / "scripts/recorded"
 
 
 class TestFound:

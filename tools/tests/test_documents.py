@@ -10,7 +10,7 @@ from unittest import mock
 import pytest
 
 from tools import crates_page, headline, proved, statement
-from tools.tests.logs import ended
+from tools.tests.program import ended
 
 TOP = Path(__file__).resolve().parents[2]
 

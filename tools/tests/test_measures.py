@@ -7,10 +7,12 @@ from unittest import mock
 
 import pytest
 
+from made_logs import FIVE, HEAD, PAVED, RENEWED, epoch_of, written
+
 from gpscover.log import Row
 from tools import bench, certified_table, exact_extents, largest_sizes, long_day, pairs_table, renewed
 from tools.made import orbits
-from tools.tests.logs import FIVE, HEAD, PAVED, RENEWED, ended, epoch_of, written
+from tools.tests.program import ended
 
 
 class TestExactExtents:
@@ -59,7 +61,7 @@ class TestLongDay:
         assert first[:29] == "> 2008 05 26 05 59 29.9990000"
         time = 895816769.999
         seen = [(line[:3], float(line[3:17])) for line in lines if line[0] == "G"]
-        left = [code - long_day.signal(sky.record(satellite, time), time)[1] for satellite, code in seen]
+        left = [code - orbits.arrival(sky.record(satellite, time), long_day.PLACE, time)[1] for satellite, code in seen]
         assert len(left) == 9
         assert max(left) - min(left) < 20
 

@@ -207,10 +207,6 @@ class TestRealFiles:
         assert closings(ran.stdout)(*kinds) == closings(SOLVED)(*kinds, b"cut")
         assert closings(ran.stdout)(b"total") == closings(SOLVED)(b"done")
 
-    def test_pave_writes_the_log_and_the_report(self):
-        self.expect(["pave", ROWS, "new.log"], 0, REPORT)
-        assert self.read("new.log") == PAVED
-
     def test_a_longer_log_is_written_over(self):
         for words, log in (["solve", *FILES], SOLVED), (["pave", ROWS], PAVED):
             self.write("old.log", b"edge 0 0 0\n" * 100_000)
@@ -220,17 +216,6 @@ class TestRealFiles:
     def test_log_may_be_a_file_that_is_read(self):
         self.expect(["pave", ROWS, ROWS], 0, REPORT)
         assert self.read(ROWS) == PAVED
-
-    def test_verdicts(self):
-        boxes = closings(SOLVED)(b"in", b"edge")
-        for words in ["judge", "receiver.log"], ["check", *FILES, "receiver.log"]:
-            self.expect(words, 0, b"yes %d\n" % boxes)
-        lines = SOLVED.splitlines(keepends=True)
-        at = next(k for k, line in enumerate(lines) if line.startswith(b"done "))
-        lines[at] = b"done %d\n" % (int(lines[at].split()[1]) + 1)
-        self.write("receiver.log", b"".join(lines))
-        for words in ["judge", "receiver.log"], ["check", *FILES, "receiver.log"]:
-            self.expect(words, 1, b"no 64 CountDiffers line %d\n" % (at + 1))
 
     def test_zones(self):
         assert SOLVED.count(b"\nroot %s\n" % ROOT) == 4
@@ -248,16 +233,6 @@ class TestRealFiles:
         assert self.run_words("solve", *FILES, "part.log", *part).returncode == 0
         self.expect(["guard", *FILES, "a.zones", "part.log", *part], 0, found_in(2, 3))
         self.expect([*words, *part], 1, b"no 51 EpochDiffers line 3\n")
-
-    def test_zones_of_a_log_that_is_not_accepted(self):
-        lines = SOLVED.splitlines(keepends=True)
-        at = next(k for k, line in enumerate(lines) if line.startswith(b"done "))
-        lines[at] = b"done %d\n" % (int(lines[at].split()[1]) + 1)
-        self.write("receiver.log", b"".join(lines))
-        words = ["guard", *FILES, "a.zones", "receiver.log"]
-        self.expect(words, 1, b"no 64 CountDiffers line %d\n" % (at + 1))
-        self.write("receiver.log", SOLVED[:-1])
-        self.expect_nothing_done(words, 3, b"log 40 BadLog line %d kind 4\n" % SOLVED.count(b"\n"))
 
     def test_zones_of_a_track(self):
         words = ["guard", *FILES, "a.zones", "receiver.log"]
@@ -397,42 +372,6 @@ class TestRealFiles:
                 self.write("settings.toml", settings.replace(b"[signal]\n", pairs + b"[signal]\n", 1))
                 self.expect([check, *FILES, "new.log"], 0, yes)
             assert lengths[0] > 0
-
-    def test_a_log_with_renewed_rows(self):
-        renewed = (EXAMPLES / "renewed-rows.log").read_bytes()
-        self.write("new.log", renewed)
-        self.expect(["judge", "new.log"], 0, b"yes 1\n")
-        self.write("new.log", renewed.replace(b"gpscover 2", b"gpscover 1", 1))
-        self.expect(["judge", "new.log"], 3, b"", b"log 40 BadLog line 11 kind 2\n")
-
-    def test_rows_of_which_less_is_sure(self):
-        log = (
-            (EXAMPLES / "one-edge-box.log")
-            .read_bytes()
-            .replace(b" -500000 500000\n", b" -500000 500000 -400000 400000\n", 1)
-        )
-        self.write("sure.log", log)
-        self.expect(["judge", "sure.log"], 0, b"yes 1\n")
-        self.write("sure.log", log.replace(b" -400000 400000", b" -500000 500000"))
-        self.expect(["judge", "sure.log"], 3, b"", b"log 40 BadLog line 4 kind 3\n")
-        # All but G04 fit everywhere at clock offset 0, G01 only where its error may be 1 m.
-        inner = log.replace(b" -400000 400000", b"").replace(b" -500000 500000\n", b" -1000000 1000000\n")
-        below = b"sat G05 0 0 0 0 -20000000000000 -20000000000000 20000000000000 20000000000000 -1000000 1000000\n"
-        inner = (
-            inner.replace(b"rules 0 ", b"rules 1 ")
-            .replace(b"000000 4\n", b"000000 5\n")
-            .replace(b"root ", below + b"root ")
-        )
-        inner = inner.replace(b"edge 0 -1400000 1400000", b"in 0 0 -1900000 1900000")
-        self.write("sure.log", inner)
-        self.expect(["judge", "sure.log"], 0, b"yes 1\n")
-        self.write("sure.log", inner.replace(b" -1000000 1000000\n", b" -1000000 1000000 -999999 999999\n", 1))
-        self.expect(["judge", "sure.log"], 1, b"no 59 InNotShown line 10\n")
-
-    def test_made_files_are_solved_and_checked_from_disk(self):
-        for seed, count in (0, 1), (4294967295, 9):
-            said = made_files.solve_and_check(self.program, self.folder, seed, count)
-            assert said.startswith(f"made seed {seed} epochs {count} satellites {8 * count}\n"), said
 
     def test_a_made_code_that_meets_its_noise_may_be_the_next_mm(self):
         said = made_files.solve_and_check(self.program, self.folder, 516, 5)

@@ -1,4 +1,4 @@
-"""Tests of the tables of stations: what several rows allow together, codes that are made longer, made pairs."""
+"""Tests of the tables of stations: what several rows allow together, parts of boxes, made pairs."""
 import argparse
 import itertools
 from pathlib import Path
@@ -8,13 +8,6 @@ import pytest
 from gpscover.settings import Settings
 from tools import station_tables
 from tools.made import made_pairs
-
-HEAD = """\
-G   14 C1C L1C S1C C2W L2W S2W C2X L2X S2X C5X L5X S5X C1W      SYS / # / OBS TYPES
-       L1W                                                  SYS / # / OBS TYPES
-                                                            END OF HEADER
-"""
-BLOCK = "> 2005 04 02 00 00  0.0000000  0  2\nG03  21564983.582      113324.123\nG13  20093436.499\n"
 
 
 class TestFurthest:
@@ -31,21 +24,11 @@ class TestFurthest:
         assert station_tables.furthest(apart + self.EIGHT, [0.0, 1.0, 0.0]) is None
 
 
-class TestCodes:
-    def test_the_column_of_a_code(self):
-        assert [station_tables.column_of(HEAD, code) for code in ("C1C", "C2W", "C1W", "L1W")] == [0, 3, 12, 13]
-
-    def test_a_longer_code(self):
-        changed = station_tables.longer(BLOCK, "G03", 0, -3.0)
-        assert changed == BLOCK.replace("21564983.582", "21564980.582")
-        changed = station_tables.longer(BLOCK, "G03", 1, 0.5)
-        assert changed == BLOCK.replace("113324.123", "113324.623")
-
-    def test_the_parts_of_a_box(self):
-        parts = list(station_tables.halved([(0, 3), (-2, 2), (5, 6)]))
-        assert len(parts) == 8
-        for axis, ends in enumerate(([(0, 1), (1, 3)], [(-2, 0), (0, 2)], [(5, 5), (5, 6)])):
-            assert {part[axis] for part in parts} == set(ends)
+def test_the_parts_of_a_box():
+    parts = list(station_tables.halved([(0, 3), (-2, 2), (5, 6)]))
+    assert len(parts) == 8
+    for axis, ends in enumerate(([(0, 1), (1, 3)], [(-2, 0), (0, 2)], [(5, 5), (5, 6)])):
+        assert {part[axis] for part in parts} == set(ends)
 
 
 @pytest.mark.parametrize("km, most", (("1", 20), ("50", 40), (None, 130)))

@@ -249,12 +249,12 @@ class TestWords(WholeRuns):
             self.expect(words.split(), self.FILES | {log: few_log(first, last)}, DONE, said)
 
     def test_taken_for_a_track(self):
-        """What asks for a track wants a speed, and nothing else does."""
+        """What asks for a track wants a speed, which is missed before the navigation file is read."""
         for words in (
             "track o n s l", "track o n s l --from 3 --to 20", "retrack --to 7 o n s --from=2 l",
             "guard o n s z l --from 3 --track", "guard --track o n s z --to=7 l",
         ):
-            files = self.FILES | {"l": few_log(1, 24)}
+            files = self.FILES | {"n": "", "l": few_log(1, 24)}
             self.expect(words.split(), files, REFUSED, err="settings 31 Missing motion.speed\n")
 
     def test_taken_for_a_made_receiver(self):
@@ -281,9 +281,17 @@ class TestWords(WholeRuns):
         self.expect("solve o n s -- --quiet".split(), self.FILES, DONE, few_report(1, 24), made=named)
 
     def test_not_taken(self):
+        """Numbers are decimal digits from 1 to 200,000, with no sign and no zero in front."""
+        check = ["check", "o", "n", "s", "l"]
         for words in (
-            [], [""], ["judge", "-5"], ["solve", "o", "n", "s", "l", "--from", ""],
+            [], [""], ["judge", "-5"], ["solve", "o", "n", "s", "l", "--from", ""], [*check, "--from", ""],
+            [*check, "--from", "1 "],
+            *([*check, *more.split()] for more in (
+                "--from 0", "--from 07", "--from +3", "--from -3", "--from=-3", "--from 200001", "--from=", "--from",
+                "--from 1 --from 1", "--to 2 --to 2", "--fro 1", "m",
+            )),
             *map(str.split, (
+                "judge -l", "pave -r l", "pave r -l", "check o n s", "solve o -n s l",
                 "judge", "judge x y", "jud x", "paint x", "Judge x", "help", "--help", "-h", "--version", "judge --help",
                 "judge -h", "-- judge x", "judge x --from 3", "pave r", "pave r l m", "solve", "solve o n s",
                 "solve o n s l m", "solve o n s l --fro 3", "solve o n s l --from", "solve o n s l --from -3",
@@ -300,21 +308,6 @@ class TestWords(WholeRuns):
             )),
         ):
             self.expect(words, self.FILES | {"x": EDGE_LOG, "r": ROWS}, NO_COMMAND, err=USAGE.decode())
-
-    def test_other_words_are_answered_with_the_usage(self):
-        for words in (
-            "judge -l", "pave -a a.log", "pave a.rows -a.log", "check a.obs a.nav a.toml", "solve a.obs -n a.toml a.log",
-        ):
-            self.expect(words.split(), RECEIVER, NO_COMMAND, err=USAGE.decode())
-
-    def test_options_have_their_form(self):
-        """Numbers are decimal digits from 1 to 200,000, with no sign and no zero in front."""
-        for words in (
-            ["--from", "0"], ["--from", "07"], ["--from", "+3"], ["--from", "-3"], ["--from=-3"], ["--from", "200001"],
-            ["--from", ""], ["--from="], ["--from"], ["--from", "1 "], ["--from", "1", "--from", "1"],
-            ["--to", "2", "--to", "2"], ["--fro", "1"], ["b.log"],
-        ):
-            self.expect(["check", *RECEIVER, *words], RECEIVER, NO_COMMAND, err=USAGE.decode())
 
 
 class TestJudging(WholeRuns):
@@ -427,8 +420,9 @@ class TestMaking(WholeRuns):
         boxes = " ".join(f"{kind} {count(report, kind + ' ')}" for kind in ("in", "edge", "out"))
         lines = f"made seed 7 epochs 3 satellites 24\nboxes {boxes} bisections "
         assert self.done_in(self.folder({}), ["make", "7", "3"])[: len(lines)] == lines
-        said = made_files.solve_and_check(self.program, self.folder({}), 7, 3)
-        assert said[: len(lines)] == lines
+        for seed, epochs in (7, 3), (0, 1), (4294967295, 9):
+            first = lines if seed == 7 else f"made seed {seed} epochs {epochs} satellites {8 * epochs}\n"
+            assert made_files.solve_and_check(self.program, self.folder({}), seed, epochs).startswith(first)
 
     def test_made_files_are_solved_with_renewed_rows(self):
         """Rows are renewed where the settings ask for it."""
@@ -611,12 +605,6 @@ class TestTracks(WholeRuns):
         report = "epoch 1 gps 1388620800.070000000000 few 1\n"
         self.expect_in(folder, ["track", *self.FILES, "b.log"], DONE, report, made={"b.log": LOG})
         self.expect_in(folder, ["retrack", *self.FILES, "b.log"], DONE, "yes 0\n")
-
-    def test_a_track_wants_a_speed(self):
-        """It is missed before the navigation file is read."""
-        for command in "track", "retrack":
-            files = {"a.obs": OBS, "a.nav": "", "a.toml": SETTINGS, "a.log": LOG}
-            self.expect([command, *self.FILES, "b.log"], files, REFUSED, err="settings 31 Missing motion.speed\n")
 
     def test_a_receiver_is_lost(self):
         """A block behind the one in which the receiver was lost is one too many."""

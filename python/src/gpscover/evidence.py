@@ -51,7 +51,7 @@ from dataclasses import dataclass
 from pathlib import Path
 
 from gpscover import zones
-from gpscover.command import Command
+from gpscover.command import Command, work_of
 from gpscover.errors import Error
 from gpscover.log import PathLike, epochs
 from gpscover.observations import file_epochs
@@ -385,11 +385,5 @@ def arguments(parser: argparse.ArgumentParser) -> None:
     asked.add_argument("--second-only", action="store_true", help="run the second checker alone")
 
 
-def run(args: argparse.Namespace) -> int:
-    """Does the work of the way that the words named. The status."""
-    args.work(args)
-    return 0
-
-
 ABOUT = "evidence of a run: makes a bundle, or checks one"
-COMMAND = Command("evidence", ABOUT, arguments, run, __doc__)
+COMMAND = Command("evidence", ABOUT, arguments, work_of, __doc__)

@@ -15,37 +15,27 @@ there; 2 for a wrong command line.
 from __future__ import annotations
 
 import argparse
-import csv
 from collections.abc import Callable
 from pathlib import Path
 
 from gpscover import frames, geojson, kml
 from gpscover.command import Command, absent, whole_file
 from gpscover.errors import Error
-from gpscover.log import epochs, has_bounds, open_log
-from gpscover.region import region_or_none
-from gpscover.summary import CERTIFIED_COLUMNS, COLUMNS, certified_values, csv_line, mark_of
+from gpscover.log import open_log
+from gpscover.summary import csv_writer, summarize
 
 
 def write_csv(log: str, out: str) -> None:
     """Writes the values of each epoch."""
     with whole_file(out) as file:
-        writer = csv.writer(file, lineterminator="\n")
-        bounded = has_bounds(log)
-        writer.writerow(COLUMNS + (CERTIFIED_COLUMNS if bounded else []))
-        for epoch in epochs(log):
-            region = region_or_none(epoch)
-            line = csv_line(epoch, region, mark_of(epoch, region))
-            writer.writerow(line + (certified_values(region) if bounded else []))
+        summarize(log, csv_writer(file, log))
 
 
 def write_kml(log: str, out: str) -> None:
     """Writes a placemark for each epoch."""
     with whole_file(out) as file:
         file.write(kml.head())
-        for epoch in epochs(log):
-            region = region_or_none(epoch)
-            file.write(kml.placemark(epoch, region, mark_of(epoch, region)))
+        summarize(log, lambda *of_epoch: None, file)
         file.write(kml.TAIL)
 
 

@@ -1,4 +1,13 @@
-"""A log as pandas frames. Needs pandas (Debian: apt-get install python3-pandas)."""
+"""A log as pandas frames, and as a table for other programs by the ending of OUT: .csv or .parquet.
+
+usage: gpslog frame LOG OUT [--of epochs|boxes|rows]
+
+A row is of an epoch, of a kept box or of a usable satellite. Needs pandas (Debian: apt-get install
+python3-pandas), and Parquet pyarrow or fastparquet too.
+
+Exit status: 0; 1 where a file can't be read or written, LOG is no whole log, or a library isn't
+there; 2 for a wrong command line.
+"""
 
 from __future__ import annotations
 
@@ -133,4 +142,4 @@ def run(args: argparse.Namespace) -> int:
     return 0
 
 
-COMMAND = Command("frame", "epochs, boxes or rows as a table, CSV or Parquet", arguments, run)
+COMMAND = Command("frame", "epochs, boxes or rows as a table, CSV or Parquet", arguments, run, __doc__)

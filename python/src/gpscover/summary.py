@@ -407,17 +407,21 @@ def print_text(args: argparse.Namespace, outlines: TextIO | None, judge: Judge |
     return totals
 
 
-def print_csv(args: argparse.Namespace, outlines: TextIO | None, judge: Judge | None) -> Totals:
-    """Prints the values of all epochs."""
-    writer = csv.writer(sys.stdout, lineterminator="\n")
-    bounded = has_bounds(args.log)
+def csv_writer(file: TextIO, log: PathLike, judge: Judge | None = None) -> WriteLine:
+    """Writes the names of the values, and gives what writes those of an epoch."""
+    writer, bounded = csv.writer(file, lineterminator="\n"), has_bounds(log)
     writer.writerow(COLUMNS + (PLACE_COLUMNS if judge else []) + (CERTIFIED_COLUMNS if bounded else []))
 
     def write(epoch: Epoch, region: Region | None, mark: str, found: Numbers | None) -> None:
         line = csv_line(epoch, region, mark) + (place_values(judge, region, found) if judge else [])
         writer.writerow(line + (certified_values(region) if bounded else []))
 
-    return summarize(args.log, write, outlines, judge)
+    return write
+
+
+def print_csv(args: argparse.Namespace, outlines: TextIO | None, judge: Judge | None) -> Totals:
+    """Prints the values of all epochs."""
+    return summarize(args.log, csv_writer(sys.stdout, args.log, judge), outlines, judge)
 
 
 def print_box(args: argparse.Namespace, outlines: TextIO | None, judge: Judge | None) -> Totals:

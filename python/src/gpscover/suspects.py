@@ -9,13 +9,14 @@ there is a clock offset at which it can be one of them, so that it broke its bou
 search box the receiver was. The spans are those of the log's boxes and of the rows in use where
 each was closed, in whole numbers; a finer paving can name a satellite that a coarse one doesn't.
 
-`open` runs GPSCOVER (./gpscover) on the files with outliers = 0: with the bounds as they are, and
-with those of each satellite in turn opened to 1 km. Where no position fits as they are, the faulty
-satellite is among those whose opening leaves a region, if one alone is faulty. Where the settings
-have a table [galileo], its offset is opened to 1 km in a run of its own, which opens all satellites
-of Galileo by as much. For epochs in which none of these leaves a region each two satellites are
-opened together, a run for each pair. Only epochs that are empty with the bounds as they are get a
-line. The files of these runs stand in FOLDER, or in a folder that is removed at the end.
+`open` runs GPSCOVER (the program that ./gpscover runs) on the files with outliers = 0: with the
+bounds as they are, and with those of each satellite in turn opened to 1 km. Where no position fits
+as they are, the faulty satellite is among those whose opening leaves a region, if one alone is
+faulty. Where the settings have a table [galileo], its offset is opened to 1 km in a run of its own,
+which opens all satellites of Galileo by as much. For epochs in which none of these leaves a region
+each two satellites are opened together, a run for each pair. Only epochs that are empty with the
+bounds as they are get a line. The files of these runs stand in FOLDER, or in a folder that is
+removed at the end.
 
 With a station, which `log` is told by --station and `open` by its file, the bounds are those of
 differences: a fault is the receiver's or the station's, and which of the two isn't told.
@@ -32,15 +33,15 @@ from __future__ import annotations
 import argparse
 import math
 import re
-import subprocess
 import tempfile
-from collections.abc import Iterable, Iterator
+from collections.abc import Collection, Iterable, Iterator
 from itertools import combinations
 from pathlib import Path
 
-from gpscover.command import Command, read_text
+from gpscover.command import Command, read_text, work_of
 from gpscover.errors import Error
 from gpscover.log import Box, Epoch, Interval, PathLike, Row, calendar, epochs
+from gpscover.runs import solve
 
 OPENED_MM = 1_000_000
 AT_EITHER = " at the receiver or the station"
@@ -122,24 +123,20 @@ class Runs:
     """Runs the program on the same files with other settings."""
 
     def __init__(
-        self, program: PathLike, obs: PathLike, nav: PathLike, folder: PathLike, station: PathLike | None = None
+        self, program: PathLike | None, obs: PathLike, nav: PathLike, folder: PathLike, station: PathLike | None = None
     ) -> None:
-        self.program, self.obs, self.nav = str(program), str(obs), str(nav)
-        self.folder = Path(folder)
-        self.options = [] if station is None else ["--station", str(station)]
+        self.program, self.obs, self.nav = program, obs, nav
+        self.folder, self.station = Path(folder), station
 
-    def solve(self, name: str, settings: str, some: Iterable[int] = ()) -> list[Epoch]:
+    def solve(self, name: str, settings: str, some: Collection[int] = ()) -> list[Epoch]:
         """The epochs that the program finds with these settings: those from the first to the last of some numbers, or
         all."""
         toml, log = self.folder / f"{name}.toml", self.folder / f"{name}.log"
         toml.write_text(settings, encoding="utf-8")
-        words = [self.program, "solve", self.obs, self.nav, str(toml), str(log), *self.options]
-        if numbers := sorted(some):
-            words += ["--from", str(numbers[0]), "--to", str(numbers[-1])]
-        ran = subprocess.run(words, stdout=subprocess.DEVNULL, stderr=subprocess.PIPE, text=True)
-        if ran.returncode:
-            raise Error(f"{' '.join(words)} ended with {ran.returncode}: {ran.stderr.strip()}")
-        return list(epochs(log))
+        first, last = min(some, default=None), max(some, default=None)
+        files = self.obs, self.nav, toml, log
+        ran = solve(*files, first=first, last=last, station=self.station, program=self.program)
+        return list(ran.log)
 
 
 def helpful(runs: Runs, opened: dict[str, str], wanted: Iterable[int]) -> dict[int, list[str]]:
@@ -172,7 +169,7 @@ def opened_lines(runs: Runs, settings: str) -> Iterator[str]:
             " ".join(helps[index]) or "none: more than two satellites broke their bounds, or the receiver was outside"
         )
         yield f"epoch {index} {calendar(epoch.ps)} empty; a region is left when opening {told}"
-    end = f"; a fault is one{AT_EITHER}" if runs.options and empty else ""
+    end = f"; a fault is one{AT_EITHER}" if runs.station is not None and empty else ""
     yield f"epochs {len(given)}, of which {len(empty)} are empty at outliers = 0{end}"
 
 
@@ -204,16 +201,10 @@ def arguments(parser: argparse.ArgumentParser) -> None:
     for name in ("obs", "nav", "settings"):
         opened.add_argument(name, metavar=name.upper())
     opened.add_argument("--station", help="the observation file of a station")
-    opened.add_argument("--program", default="./gpscover", help="the program (./gpscover)")
+    opened.add_argument("--program", help="the program (the one that ./gpscover runs)")
     opened.add_argument("--folder", help="where the runs' files are kept")
     opened.set_defaults(work=run_open)
 
 
-def run(args: argparse.Namespace) -> int:
-    """Does the work of the way that the words named. The status."""
-    args.work(args)
-    return 0
-
-
 ABOUT = "which satellites surely broke their declared bounds"
-COMMAND = Command("suspect", ABOUT, arguments, run, __doc__)
+COMMAND = Command("suspect", ABOUT, arguments, work_of, __doc__)
