@@ -32,7 +32,7 @@ returns g c =
     (λ answer bytes said text. (
       blocks_of last,
       text_of answer bytes said (text_map _ of_rows
-          blocks_of (λ old hull next new gave. gave) (λ blocks. refl) rows.rules
+          blocks_of (λ old hull next new gave. gave) (λ blocks. refl) refl rows.rules
           c.of_log-blocks.result last limits.log answer bytes said text),
     ))
     (ap (λ (blocks : List Block). most_bytes false (length blocks) rows.rules.bisections) made.rest)
