@@ -5,9 +5,9 @@ usage: python3 -m tools.certified_table LOG [LOG ...] [--directions 4|8|16] [--e
 
 A row of the table is of a log in which no rows are renewed. It has q and the splits, by how much on average the kept
 boxes reach further along east, north and up than what the rows allow exactly, in percent and in metres, and how much
-further the bounds go that `gpslog bounded` finds: on average and at worst over all directions, in mm. Then how many of
-the bounds were found, the bytes that an epoch takes without bounds and those of its bounds, and the processor time that
-they take an epoch. Of every N-th epoch (1). The exact region is that of tools/exact_extents.py along the directions of
+further the bounds go that an epoch has, or that `gpslog bounded` finds where it has none: on average and at worst over
+all directions, in mm. Then how many of the bounds there are, the bytes that an epoch takes without bounds and those of
+its bounds, and the processor time that finding them takes an epoch. Of every N-th epoch (1). The exact region is that of tools/exact_extents.py along the directions of
 the bounds, with each row as wide as the span of its satellite's place makes it, which is left out there: some 0.1 m.
 
 Exit status: 0; 1 where a file can't be read, or LOG is no whole log; 2 for a wrong command line.
@@ -67,7 +67,7 @@ class Means:
     def add(self, epoch, exact, count):
         """Adds an epoch."""
         start = time.process_time()
-        found = bounds_of(epoch, count)
+        found = epoch.bounds or bounds_of(epoch, count)
         self.times.append(time.process_time() - start)
         self.sought += count + 2
         self.sizes.append(sum(len(line) + 1 for bound in found for line in bound_lines(bound)))
@@ -101,7 +101,8 @@ def row_of(path, exact, count, every):
     for number, epoch in enumerate(log, 1):
         if epoch.kept and number % every == 0:
             means.add(epoch, exact, count)
-    cells = means.cells(Path(path).stat().st_size, number)
+    own = sum(len(line) + 1 for epoch in log for bound in epoch.bounds for line in bound_lines(bound))
+    cells = means.cells(Path(path).stat().st_size - own, number)
     return " | ".join(["", Path(path).stem, str(log.rules.outliers), str(log.rules.splits), *cells, ""]).strip()
 
 
