@@ -16,7 +16,7 @@ from pathlib import Path
 
 import pytest
 
-from gpscover.log import Epoch, Fold
+from gpscover.log import AXES, END_OF_FACE, Epoch, Fold
 from tools.made import made_files
 from tools.tests.program import DAY, INPUT, LOG, MIB, RECORD, SETTINGS, USAGE
 
@@ -63,6 +63,17 @@ def longest(box):
     return max(high - low for low, high in zip(box[:3], box[3:]))
 
 
+def take_step(fold, word, fields):
+    """Takes a step of a log into its live boxes."""
+    if word == "cut":
+        identity, face, bound = fields
+        fold.live[int(identity)][END_OF_FACE[face]] = int(bound)
+    elif word == "split":
+        fold.halve(int(fields[0]), AXES[fields[1]])
+    else:
+        fold.close([word, *fields])
+
+
 def renewals(log):
     """The `renew` lines that the steps of a log ask for, and those that are there: the number of the line, and the box.
 
@@ -79,7 +90,7 @@ def renewals(log):
             box = tuple(map(int, fields))
             found.append((number, box))
         elif word in ("cut", "split", "out", "in", "edge"):
-            fold.step([word, *fields])
+            take_step(fold, word, fields)
             splits += word == "split"
             ends = list(zip(*fold.live.values()))
             if word == "split" and splits & (splits - 1) == 0:
