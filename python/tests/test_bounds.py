@@ -159,8 +159,9 @@ class TestBounds:
             "vertical = [0, 6000]",
         ]
 
-    @given(st.floats(0, 120), st.floats(1, 5), st.floats(0, 8), st.floats(0, 0.5))
-    def test_the_noise_that_the_zenith_carries_is_enough_and_the_least(self, rise, horizon, receiver, mapping):
+    @given(st.integers(0, 1200), st.integers(100, 500), st.integers(0, 8000), st.integers(0, 50))
+    def test_the_noise_that_the_zenith_carries_is_enough_and_the_least(self, tenths, percent, millimetres, mapping):
+        rise, horizon, receiver, mapping = tenths / 10, percent / 100, millimetres / 1000, mapping / 100
         parts = bounds.Parts("single", rise=rise, horizon=horizon, receiver=receiver, mapping=mapping)
         carried = bounds.noise_at_zenith(parts) / 1000
         angles = [math.radians(90 * k / 3600) for k in range(3601)]
