@@ -41,9 +41,14 @@ def setting(text, key, value):
     return changed if count else text.replace("[search]\n", f"[search]\n{key} = {value}\n", 1)
 
 
+def without_bounds(text):
+    """The settings without certified bounds in the log: they are of logs with pairs alone, and `pave` seeks none."""
+    return re.sub(r"(?m)^directions *=.*\n", "", text)
+
+
 def with_values(settings, values, pairs):
     """The text of settings with other values in the table [search]; rows aren't renewed, as `pave` doesn't either."""
-    text = Path(settings).read_text(encoding="utf-8")
+    text = without_bounds(Path(settings).read_text(encoding="utf-8"))
     for key, value in (*values.items(), ("pairs", str(pairs).lower()), ("renew", "false")):
         text = setting(text, key, value)
     return text

@@ -24,7 +24,7 @@ from pathlib import Path
 
 from gpscover.command import run_tool
 from gpscover.log import epochs
-from tools.pairs_table import Failed, ended, length, setting
+from tools.pairs_table import Failed, ended, length, setting, without_bounds
 from gpscover.region import region_of
 
 RECHECK = Path(__file__).resolve().parents[1] / "second/recheck.py"
@@ -44,7 +44,7 @@ def mapped(settings, zenith):
 
 def with_values(settings, half, pairs, zenith, renew):
     """The text of settings with a half side in km and other values of some keys. None leaves pairs or zenith as they are."""
-    text = setting(setting(settings, "half", half * 1_000_000), "renew", str(renew).lower())
+    text = setting(setting(without_bounds(settings), "half", half * 1_000_000), "renew", str(renew).lower())
     if pairs is not None:
         text = setting(text, "pairs", str(pairs).lower())
     return text if zenith is None else mapped(text, zenith)

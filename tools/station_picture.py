@@ -4,14 +4,14 @@
 usage: PYTHONPATH=python/src python3 -m tools.station_picture ALONE STATION X Y Z OUT
 
 ALONE is the log of the receiver by itself, STATION that of the same epochs with a station, X Y Z the known place in m,
-which is the origin. Both are seen from above and from the side; what is left of the dark region at the scale of the
-light one stands in its panel too.
+which is the origin. Both are seen from above and from the side: their boxes, and as a line what certified bounds leave.
+The region with the station stands in the panel of the other too, at its scale.
 """
 import sys
 
 from gpscover.command import measure, run_tool
 from gpscover.log import open_log
-from gpscover.drawn_regions import DIRECTIONS, box_polygons
+from gpscover.drawn_regions import DIRECTIONS, box_polygons, draw_certified
 from gpscover.outline import outline
 from gpscover.plotting import EDGE_COLOUR, EDGE_LINE_COLOUR, PLACE_COLOUR, save, tools
 from gpscover.region import region_of, upward
@@ -32,6 +32,8 @@ def draw_panel(axes, collections, drawn, colour, pair):
     polygons = box_polygons(epoch.boxes, region.origin, first, second)
     boxes = collections.PolyCollection(polygons, facecolors=colour, edgecolors="#00000050", linewidths=0.1)
     axes.add_collection(boxes)
+    if region.certified:
+        draw_certified(axes, region, pair)
     axes.plot([0], [0], "+", color=PLACE_COLOUR, markersize=10, markeredgewidth=1.6)
     axes.autoscale_view()
     axes.set(aspect="equal", xlabel="east, m", ylabel=f"{pair[1]}, m")

@@ -40,6 +40,9 @@ class TestBegin:
             assert "check says yes " in out and "epochs 4: 4 with a region, of which 0 reach the search box" in out
             settings = Settings.read(folder / "settings.toml")
             assert (settings.search.half, settings.signal.codes, settings.search.renew) == (1_000_000, ("C1C",), True)
+            assert (settings.search.bisections, settings.search.directions) == (64, 8)
+            # 1.02 * 2.65 m, and 402 mm for the noise
+            assert (settings.bounds.zenith[1], settings.bounds.vertical, settings.satellites) == (3105, (0, 10000), {})
             assert "round the place of the header, with 4 of 4 epochs" in (folder / "settings.toml").read_text()
             assert len(list(open_log(folder / "receiver.log"))) == 4
             assert (folder / "summary.txt").read_text().count("\n") == 7

@@ -1,13 +1,16 @@
 """Bounds by elevation, by hand."""
 
 import argparse
+import dataclasses
 import math
 import re
 
 import pytest
-from made_logs import FIVE, HEAD, PAVED, ROOT, ended_with, epoch_of, written
+from hypothesis import given
+from hypothesis import strategies as st
+from made_logs import EXAMPLES, FIVE, HEAD, PAVED, RECORDED, ROOT, ended_with, epoch_of, written
 
-from gpscover import Error, bounds, cli, geodesy
+from gpscover import Error, Settings, bounds, cli, geodesy, integrity, open_log, solve
 from gpscover.errors import UsageError
 
 
@@ -103,7 +106,7 @@ class TestBounds:
         args = self.table("single", "--zenith", "--vertical", "--ionosphere", "-1", "7.0005")
         assert list(bounds.common_lines(args))[-4:] == [
             "troposphere = [0, 0]",
-            "zenith = [1911, 2703]",
+            "zenith = [1509, 3105]",
             "# Mapped by elevation: -1 to 7.0005 m at the vertical, on L1.",
             "vertical = [-1000, 7001]",
         ]
@@ -123,6 +126,71 @@ class TestBounds:
             with pytest.raises(UsageError):
                 self.table(mode, *words)
             assert ended_with(bounds, "LOG", 0, 0, 0, mode, *words)[0] == 2
+
+    def test_the_zenith_s_line_carries_the_noise_by_hand(self):
+        args = self.table("single", "--zenith", "--vertical")
+        assert bounds.noise_at_zenith(args) == 402
+        for degrees, noise, mapped in (
+            (0, 3.0, 1.001 / math.sqrt(0.002001)),  # 22.38
+            (15, 1.5, 1.001 / math.sqrt(0.002001 + 0.258819**2)),  # 3.811
+            (30, 0.0, 1.001 / math.sqrt(0.252001)),  # 1.994
+        ):
+            assert bounds.extra_noise(math.radians(degrees), args) == pytest.approx(noise, rel=0, abs=1e-9)
+            assert bounds.troposphere_mapping(math.radians(degrees)) == pytest.approx(mapped, rel=1e-6)
+            assert 0.402 * 0.98 * mapped >= noise
+        # 401 mm are 1.4977 m at 15 degrees
+        assert 0.401 * 0.98 * 3.811 < 1.5
+        # 1911 - 402 and 2703 + 402
+        assert bounds.tables({"G05": (0.3, 1.1), "E11": (0.2, 0.4)}, args) == [
+            "[bounds]",
+            "# Noise and multipath high up: 3 m on each code.",
+            "receiver = [-3000, 3000]",
+            "# The broadcast orbit and clock: 3 m.",
+            "orbit_clock = [-3000, 3000]",
+            "# Mapped by elevation.",
+            "ionosphere = [0, 0]",
+            "# Mapped by elevation: 1.95 to 2.65 m at the zenith, 2% for the mapping.",
+            "# 402 mm at both ends are for noise that grows below 30 degrees, to 2 times as much at the horizon.",
+            "# Mapped, and less 2%, they are enough at every elevation, so that no satellite needs a line of its own but",
+            "# one seen below 4 degrees, where the mapping doesn't hold: [-1000000, 1000000] in [satellite].",
+            "troposphere = [0, 0]",
+            "zenith = [1509, 3105]",
+            "# Mapped by elevation: 0 to 6 m at the vertical, on L1.",
+            "vertical = [0, 6000]",
+        ]
+
+    @given(st.integers(0, 1200), st.integers(100, 500), st.integers(0, 8000), st.integers(0, 50))
+    def test_the_noise_that_the_zenith_carries_is_enough_and_the_least(self, tenths, percent, millimetres, mapping):
+        rise, horizon, receiver, mapping = tenths / 10, percent / 100, millimetres / 1000, mapping / 100
+        parts = bounds.Parts("single", rise=rise, horizon=horizon, receiver=receiver, mapping=mapping)
+        carried = bounds.noise_at_zenith(parts) / 1000
+        angles = [math.radians(90 * k / 3600) for k in range(3601)]
+        noises = [bounds.extra_noise(angle, parts) for angle in angles]
+        mapped = [bounds.troposphere_mapping(angle) * (1 - mapping) for angle in angles]
+        assert all(carried * times >= noise for noise, times in zip(noises, mapped))
+        # one mm less isn't enough, but for what cells between elevations add to such a noise
+        less = carried - 0.001 - 0.001 * (horizon - 1) * receiver
+        assert carried == 0 or any(less * times < noise for noise, times in zip(noises, mapped))
+
+    def test_a_satellite_below_the_mask_is_opened_where_the_zenith_carries_the_noise(self):
+        args = self.table("single", "--zenith", "--vertical")
+        assert bounds.tables({"G07": (0.5, 1.0), "G05": (0.03, 0.2)}, args)[-3:] == [
+            "",
+            "[satellite]",
+            "G05 = [-1000000, 1000000]  # 1.7 to 11.5 degrees, below the mask: opened",
+        ]
+
+    def test_settings_of_one_sky_hold_the_place_under_another(self, tmp_path):
+        place = (-3976219.187, 3382371.605, 3652511.142)  # of the receiver in examples/station, in 2005
+        words = ["single", "--zenith", "--vertical", "--settings", EXAMPLES / "settings.toml"]
+        text = ended_with(bounds, RECORDED / "ubx_2008.log", -3869310, 3436565, 3717366, *words)[1]
+        assert text == ended_with(bounds, RECORDED / "geonet0759_2005.log", *place, *words)[1]
+        settings = Settings.from_toml(text)
+        assert not settings.satellites
+        search = dataclasses.replace(settings.search, centre=(-3976219000, 3382372000, 3652511000), bisections=32)
+        files = [EXAMPLES / f"station/receiver.{ending}" for ending in ("obs", "nav")]
+        solve(*files, dataclasses.replace(settings, search=search), tmp_path / "other.log")
+        assert [integrity.is_held(epoch, place) for epoch in open_log(tmp_path / "other.log")] == [True] * 4
 
     def test_a_zenith_that_the_settings_would_refuse(self):
         assert "zenith = [-10000, 10000]" in list(

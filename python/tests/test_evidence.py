@@ -191,7 +191,7 @@ class TestBundles(Room):
     @classmethod
     def setup_class(cls):
         super().setup_class()
-        cls.files = receiver_in(cls.room)
+        cls.files = receiver_in(cls.room, "\n[satellite]\nG05 = [-100, 200]\nG01 = [-5, 5]\n")
         cls.bundle, cls.status, cls.lines = bundle_of(cls.room, cls.files, 1)
 
     def test_it_says_what_was_counted_by_hand(self):
@@ -228,7 +228,7 @@ class TestBundles(Room):
         assert self.lines["q"] == "at most 1 of an epoch's satellites broke their bounds"
         assert "receiver -3.000 to 3.000; orbit_clock" in self.lines["bounds"]
         assert self.lines["search"].endswith("z 3716365.893700 to 3718365.893700 m")
-        assert "G05 2.194 to 9.891" in self.lines["satellites"] and "G01" not in self.lines["satellites"]
+        assert "G05 -0.100 to 0.200" in self.lines["satellites"] and "G01" not in self.lines["satellites"]
         assert re.match("2008-05-26 05:59:29.999 GPS time: in a region of [0-9.]+ m east", self.lines["epoch-1"])
         assert "speed" not in self.lines
 
@@ -264,10 +264,10 @@ class TestBundles(Room):
     def test_there_is_none_where_a_verdict_is_no(self):
         other = self.room / "other.toml"
         other.write_text(
-            self.files[2].read_text(encoding="utf-8").replace("[-3000, 3000]", "[-3000, 3001]", 1), encoding="utf-8"
+            self.files[2].read_text(encoding="utf-8").replace("[-3000, 3000]", "[-3000, 30000]", 1), encoding="utf-8"
         )
         folder = self.room / "none"
-        with pytest.raises(Error, match="no evidence: check says no 54 BoundDiffers line 4, recheck says no 54"):
+        with pytest.raises(Error, match="no evidence: check says no 53 RowNarrow line 4 .*, recheck says no 53"):
             ended_with(evidence, "make", folder, *self.files[:2], other, self.files[3], "--to", 1, "--program", PROGRAM)
         assert not folder.exists()
 

@@ -444,7 +444,7 @@ class TestInTheBrowser:
         # the line of the time line has a gap at the number that is left out
         assert self.run_js("document.getElementById('time').data[4].y") == [4, 5, None, 5]
         assert "from 2 to 4" in self.run_js("document.getElementById('notes-list').textContent")
-        assert "bisections = 512, and the log has 10" in self.run_js("document.getElementById('lines').textContent")
+        assert "bisections = 64, and the log has 10" in self.run_js("document.getElementById('lines').textContent")
 
     def test_a_wide_and_a_narrow_window(self):
         for name in self.logs:

@@ -44,7 +44,9 @@ def test_they_read_back(settings):
 def test_the_example_s():
     settings = Settings.read(EXAMPLES / "settings.toml")
     assert (settings.search.half, settings.search.pairs) == (1000000, True)
-    assert settings.satellites["G26"] == (16285, 47246)
+    # 1.95 to 2.65 m and 2 %, and 402 mm for the noise
+    assert (settings.bounds.zenith, settings.bounds.vertical, settings.satellites) == ((1509, 3105), (0, 6000), {})
+    assert settings.search.directions == 8
     assert (settings.speed, settings.galileo) == (None, None)
 
 

@@ -23,7 +23,7 @@ def test_a_fault_is_in_all_codes_of_one_satellite_and_nowhere_else():
 
 def test_the_region_holds_the_place_and_names_the_satellite(program, room):
     settings = room / "settings.toml"
-    settings.write_text((EXAMPLES / "settings.toml").read_text().replace("bisections = 512", "bisections = 16"))
+    settings.write_text((EXAMPLES / "settings.toml").read_text().replace("bisections = 64", "bisections = 16"))
     words = [EXAMPLES / "receiver.obs", EXAMPLES / "receiver.nav", settings, "60", "--place", *PLACE]
     words += ["--station", EXAMPLES / "station.obs", "--program", program]
     said = subprocess.run([sys.executable, "-m", "tools.faults", *words], capture_output=True, text=True, check=True)

@@ -123,7 +123,7 @@ def solved(program, room, name, *changes, options=(), settings="alone.toml"):
 
 @pytest.mark.parametrize("name", PLACES)
 @pytest.mark.parametrize(
-    "changes", [(), NARROW, (("bisections = 512", "bisections = 0"),)], ids=["wide", "narrow", "whole"]
+    "changes", [(), NARROW, (("bisections = 64", "bisections = 0"),)], ids=["wide", "narrow", "whole"]
 )
 def test_both_say_the_same_of_both_stations(program, room, name, changes):
     log = solved(program, room, name, *changes)

@@ -45,7 +45,11 @@ EARTH_M = (6_300_000, 6_500_000)  # from the earth's centre, of a place on it or
 MOST_HALF_MM = 100_000_000
 WIDE = Bounds((-10_000, 10_000), (-10_000, 10_000), (0, 80_000), (0, 30_000))
 LOOK = 16  # splits of an epoch in a first look
-WORK = 160_000  # splits of all epochs together, which take about a minute
+FEWEST, USUAL, WORK = (
+    8,
+    64,
+    160_000,
+)  # splits of an epoch of a long file, of a short one, and of all, which take some minutes
 LOW_LATITUDE = 30  # degrees, below which the ionosphere delays more
 
 
@@ -175,13 +179,15 @@ def settings_lines(found: Look, header: Header, splits: int, total: int, seen: d
     yield f"half = {found.half}"
     yield "# One satellite may break its bounds: with none a single reflected signal could leave no position."
     yield "outliers = 1"
-    yield f"# So that {total} epochs take about a minute; more splits give finer regions."
+    yield "# Bounds need few splits; more give finer boxes and a longer log."
     yield f"bisections = {splits}"
     yield "width = 1000"
     yield "# GPS renews its ephemerides every two hours."
     yield "max_age = 7200"
     yield "renew = true"
     yield "pairs = true"
+    yield "# Certified bounds along eight azimuths, up and down: they make protection levels."
+    yield "directions = 8"
     yield ""
     yield "[signal]"
     yield "# One code: the combination of two takes the ionosphere out, but makes the noise three to four times larger."
@@ -228,7 +234,7 @@ def begin(args: argparse.Namespace, folder: Path) -> Iterator[str]:
     found = look(args, folder, header)
     yield from (f"warning: no position fits within 100 km of {place}: that place is wrong" for place in found.tried)
     total = file_epochs(obs)
-    splits = args.splits or min(512, max(32, WORK // max(1, total)))
+    splits = args.splits or min(USUAL, max(FEWEST, WORK // max(1, total)))
     (seen,) = (stretch.seen for stretch in bounds.stretches(folder / "look.log", found.middle, None))
     toml.write_text(
         "\n".join(settings_lines(found, header, splits, total, seen)) + "\n", encoding="utf-8", newline="\n"
@@ -252,7 +258,9 @@ def arguments(parser: argparse.ArgumentParser) -> None:
     for name in ("obs", "nav", "folder"):
         parser.add_argument(name, metavar=name.upper())
     parser.add_argument("--place", nargs=3, type=measure, metavar=("X", "Y", "Z"), help="a rough place, m")
-    parser.add_argument("--splits", type=page.number, metavar="N", help="splits of an epoch (some 160,000 in all)")
+    parser.add_argument(
+        "--splits", type=page.number, metavar="N", help="splits of an epoch (64, and fewer in a long file)"
+    )
     parser.add_argument("--program", help="the program (the one that ./gpscover runs)")
 
 

@@ -27,8 +27,11 @@ The parts that don't depend on the elevation are printed in [bounds], the rest i
 --zenith the troposphere isn't mapped here: its delay at the zenith, with the part for the mapping,
 is printed in [bounds] as `zenith`, and gpscover maps it by the elevation at each point of the
 search box and at each epoch's time. With --vertical, in single mode, so is the ionosphere's, as
-`vertical`. With both a satellite's own bound is what noise adds alone. Each number is an option,
-and is the engineer's own declaration: the region holds the receiver only while they hold.
+`vertical`. With both no satellite has a line, but those that are opened: what noise adds below
+--rise is in `zenith` too, by the least amount that is enough at every elevation once it is mapped,
+less the part for the mapping. Such settings serve any sky, and cost somewhat larger regions. Each
+number is an option, and is the engineer's own declaration: the region holds the receiver only while
+they hold.
 
 With --settings all of SETTINGS are printed, with the new tables in place of their own, wherever these
 stand. A satellite rises and sets, so one table for a long file declares much for each. With --every
@@ -69,6 +72,7 @@ EARTH_KM = 6371.0
 OPENED_M = (-1000.0, 1000.0)
 ZENITH_MM, VERTICAL_MM = (10_000, 100_000)  # the greatest amounts of delays straight up that the settings take
 SHELL_KM = 350.0  # by which gpscover maps the ionosphere
+CELLS = 20_000  # between elevations, of which each tells a greatest quotient: the least number but for some 0.1 mm
 PS_PER_S = 10**12
 DUAL_FACTOR = (77**2 + 60**2) / (77**2 - 60**2)  # the sum of the amounts of the combination's two coefficients
 
@@ -90,6 +94,11 @@ class Parts:
     mask: float = 4.0  # the least elevation in degrees at which the delays are mapped
     zenith: bool = False  # whether gpscover maps the troposphere itself
     vertical: bool = False  # the same of the ionosphere, in single mode
+
+    @property
+    def one_line(self) -> bool:
+        """Whether noise alone is left to follow the elevation, so that the zenith's line carries it."""
+        return self.zenith and self.vertical
 
 
 def troposphere_mapping(angle: float) -> float:
@@ -134,6 +143,19 @@ def varying(angle: float, parts: Parts) -> Pair:
         low, high = low + parts.ionosphere[0] * oblique, high + parts.ionosphere[1] * oblique
     noise = extra_noise(angle, parts)
     return low - noise, high + noise
+
+
+def noise_at_zenith(parts: Parts) -> int:
+    """The mm at the zenith that, mapped and less the part for the mapping, are nowhere less than what the noise grows by.
+
+    From the horizon up both the noise and the mapping fall. So between two elevations the quotient is at most that of the
+    noise at the lower one by the mapping at the higher one.
+    """
+    top = math.radians(min(max(parts.rise, 0.0), 90.0))
+    angles = [top * k / CELLS for k in range(CELLS + 1)]
+    cells = zip(angles, angles[1:])
+    most = max(extra_noise(low, parts) / troposphere_mapping(high) for low, high in cells)
+    return max(0, math.ceil(1000 * most / (1 - parts.mapping)))
 
 
 def bound_between(lowest: float, highest: float, parts: Parts) -> Pair:
@@ -232,18 +254,38 @@ def common_lines(parts: Parts) -> Iterator[str]:
     else:
         yield f"# {'Mapped by elevation.' if parts.vertical else 'By elevation below.'}"
     yield f"ionosphere = {millimetres(left)}"
-    low, high = parts.troposphere
-    yield (
-        f"# Mapped by elevation: {low:g} to {high:g} m at the zenith, {parts.mapping:.0%} for the" " mapping."
-        if parts.zenith
-        else "# By elevation below."
-    )
-    yield "troposphere = [0, 0]"
-    if parts.zenith:
-        yield f"zenith = {millimetres(troposphere(1.0, parts))}"
+    yield from troposphere_lines(parts)
     if parts.vertical:
         yield "# Mapped by elevation: {:g} to {:g} m at the vertical, on L1.".format(*parts.ionosphere)
         yield f"vertical = {millimetres(parts.ionosphere)}"
+
+
+def zenith_ends(parts: Parts) -> list[int]:
+    """The bound in mm of the delay at the zenith, with the noise that it carries."""
+    carried = noise_at_zenith(parts) if parts.one_line else 0
+    low, high = whole_millimetres(troposphere(1.0, parts))
+    return [low - carried, high + carried]
+
+
+def troposphere_lines(parts: Parts) -> Iterator[str]:
+    """The lines of the troposphere in [bounds]."""
+    if not parts.zenith:
+        yield from ("# By elevation below.", "troposphere = [0, 0]")
+        return
+    low, high = parts.troposphere
+    ends = zenith_ends(parts)
+    yield f"# Mapped by elevation: {low:g} to {high:g} m at the zenith, {parts.mapping:.0%} for the mapping."
+    if parts.one_line:
+        yield f"# {ends[1] - whole_millimetres(troposphere(1.0, parts))[1]} mm at both ends are for {noise_reason(parts)}."
+        yield f"# Mapped, and less {parts.mapping:.0%}, they are enough at every elevation, so that no satellite needs a line of its own but"
+        yield f"# one seen below {parts.mask:g} degrees, where the mapping doesn't hold: [-1000000, 1000000] in [satellite]."
+    yield "troposphere = [0, 0]"
+    yield f"zenith = {ends}"
+
+
+def noise_reason(parts: Parts) -> str:
+    """What the noise does by elevation, in words."""
+    return f"noise that grows below {parts.rise:g} degrees, to {parts.horizon:g} times as much at the horizon"
 
 
 def reason_lines(parts: Parts) -> Iterator[str]:
@@ -255,9 +297,7 @@ def reason_lines(parts: Parts) -> Iterator[str]:
     if parts.mode == "single" and not parts.vertical:
         low, high = parts.ionosphere
         reasons.append(f"zenith ionosphere {low:g} to {high:g} m on L1, by a thin shell at {parts.shell:g} km")
-    reasons.append(
-        f"noise that grows below {parts.rise:g} degrees, to {parts.horizon:g} times as much at the" " horizon"
-    )
+    reasons.append(noise_reason(parts))
     first, *more = (";\n".join(reasons) + ".").split("\n")
     yield f"# Added to the bounds above: {first}"
     yield from (f"# {line}" for line in more)
@@ -269,25 +309,36 @@ def satellite_names(seen: Iterable[str]) -> list[str]:
     return [f"{letter}{number:02}" for letter, count in counts.items() for number in range(1, count + 1)]
 
 
+def satellite_line(name: str, ends: Pair | None, parts: Parts) -> str:
+    """The line of a satellite by the elevations between which it is seen, if it is."""
+    lowest = math.radians(parts.mask)
+    low, high = ends or (lowest, math.pi / 2)
+    where = f"{math.degrees(low):.1f} to {math.degrees(high):.1f} degrees"
+    if not ends:
+        where += ", not in the log"
+    if low < lowest:
+        return f"{name} = {millimetres(OPENED_M)}  # {where}, below the mask: opened"
+    return f"{name} = {millimetres(bound_between(low, high, parts))}  # {where}"
+
+
 def satellite_lines(seen: dict[str, Pair], parts: Parts) -> Iterator[str]:
-    """The table [satellite]: every satellite, with the elevations that its bound holds for."""
-    yield "[satellite]"
-    yield from reason_lines(parts)
-    anywhere = (math.radians(parts.mask), math.pi / 2)
-    for name in satellite_names(seen):
-        low, high = seen.get(name, anywhere)
-        where = f"{math.degrees(low):.1f} to {math.degrees(high):.1f} degrees"
-        if name not in seen:
-            where += ", not in the log"
-        bound = bound_between(low, high, parts) if low >= anywhere[0] else OPENED_M
-        if low < anywhere[0]:
-            where += ", below the mask: opened"
-        yield f"{name} = {millimetres(bound)}  # {where}"
+    """The table [satellite]: every satellite, with the elevations that its bound holds for; where the zenith's line carries
+    the noise, those alone that are opened."""
+    if not parts.one_line:
+        yield "[satellite]"
+        yield from reason_lines(parts)
+        yield from (satellite_line(name, seen.get(name), parts) for name in satellite_names(seen))
+        return
+    opened = {name: ends for name, ends in sorted(seen.items()) if ends[0] < math.radians(parts.mask)}
+    if opened:
+        yield "[satellite]"
+        yield from (satellite_line(name, ends, parts) for name, ends in opened.items())
 
 
 def tables(seen: dict[str, Pair], parts: Parts) -> list[str]:
     """Both tables, line by line."""
-    return [*common_lines(parts), "", *satellite_lines(seen, parts)]
+    own = list(satellite_lines(seen, parts))
+    return [*common_lines(parts), *([""] if own else []), *own]
 
 
 def without_bounds(path: PathLike, mode: str) -> str:
@@ -371,10 +422,13 @@ def parts_of(args: argparse.Namespace) -> Parts:
         raise UsageError("a stretch has at least 0.001 seconds")
     if parts.shell < 1:
         raise UsageError("the ionosphere's shell is at least 1 km high")
-    if parts.zenith and most_millimetres(troposphere(1.0, parts)) > ZENITH_MM:
-        raise UsageError(f"with --zenith the troposphere's delay at the zenith is within {ZENITH_MM / 1000:g} m")
     if parts.vertical and (parts.mode == "dual" or parts.shell != SHELL_KM):
         raise UsageError(f"--vertical is for single mode and a shell at {SHELL_KM:g} km")
+    if parts.one_line and not 0 <= parts.mapping < 1:
+        raise UsageError("with --zenith and --vertical the part for the mapping is 0 to 1, and less than 1")
+    if parts.zenith and max(abs(end) for end in zenith_ends(parts)) > ZENITH_MM:
+        noise = ", with the noise that it carries," if parts.one_line else ""
+        raise UsageError(f"with --zenith the troposphere's delay at the zenith is{noise} within {ZENITH_MM / 1000:g} m")
     if parts.vertical and most_millimetres(parts.ionosphere) > VERTICAL_MM:
         raise UsageError(
             "with --vertical the ionosphere's delay at the vertical is within" f" {VERTICAL_MM / 1000:g} m"
