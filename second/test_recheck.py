@@ -760,7 +760,7 @@ def pair_paths(folder, name, outliers=8, **texts):
 
 def few_log(folder, name, skips=()):
     """A log of four epochs of too few satellites, in which some (epoch, satellite) are skipped for a reason."""
-    lines = ["gpscover 3", "rules 8 512 100000"]
+    lines = ["gpscover 3", "rules 8 64 100000"]
     for index, start in enumerate(PAIR_STARTS, 1):
         left = [(satellite, dict(skips).get((index, satellite))) for satellite in SEEN]
         lines.append(f"few {index} {start} {sum(reason is None for _, reason in left)}")
@@ -934,7 +934,7 @@ def station_file_cases(folder):
 def row_log(folder, name, paths, station, epochs=2):
     """A log of the first epochs of some files, whose rows are own ones of the second checker made wider by W and G."""
     files = recheck.Files(*map(str, paths), 1, epochs, False, station and str(station))
-    lines = ["gpscover 3", "rules 1 512 100000"]
+    lines = ["gpscover 3", "rules 1 64 100000"]
     for epoch in files.epochs:
         rooms = files.rooms(files.box)
         found = files.satellites(epoch)
