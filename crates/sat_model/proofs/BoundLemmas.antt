@@ -1,21 +1,27 @@
 -- The bounds of a body that passes hold what fits, and so a log that passes covers it.
 use Rattle.std.proofs.Common.{◌≡◌, ℕ, ◌≤◌, arith, List, [], ◌∷◌, length, true, inl, inr, refl, subst, sym, Option, None, Some}
-use Rattle.std.specs.Prelude.{Contains}
+use Rattle.std.specs.Prelude.{ℤ, Contains}
 use Rattle.std.proofs.lemmas.List.Elements.{Contains-append_right}
 use Rattle.grid_model.specs.Boxes.{GridBox, box_holds}
 use Rattle.grid_model.specs.declared.boxes.Pos.{Pos}
 use Rattle.sat_model.specs.Bounds.{BoundValue}
 use Rattle.sat_model.specs.BoxTests.{test_in}
-use Rattle.sat_model.specs.Cover.{EpochCover, AreBounding, BodyCover, BlockCover, BlocksCover, RowCover}
-use Rattle.sat_model.specs.Events.{Event, Made, Renewed, RowsOver, renewals_in}
-use Rattle.sat_model.specs.Logs.{Body, Block, LogValue, rows_of, first_rows}
+use Rattle.sat_model.specs.Cover.{IsPossibleByAll, numbers_from, EpochCover, AreBounding, BodyCover, BlockCover, BlocksCover, RowCover}
+use Rattle.sat_model.specs.Events.{Event, Made, Renewed, RowsOver, steps_in, renewals_in}
+use Rattle.sat_model.specs.Fitting.{AllBut}
+use Rattle.sat_model.specs.Fold.{pieces}
+use Rattle.sat_model.specs.HalfSpaces.{IsInHalfSpace}
+use Rattle.sat_model.specs.KeptHulls.{kept_hull}
+use Rattle.sat_model.specs.Logs.{Body, Block, LogValue, first_rows}
+use Rattle.sat_model.specs.MovedFaces.{hull_under}
 use Rattle.sat_model.specs.Renewals.{LineFact, AnyLine}
-use Rattle.sat_model.specs.ShownBounds.{rows_behind, AreOver, IsBoundShown, AreBoundsShown}
+use Rattle.sat_model.specs.ShownBounds.{rows_behind, AreOver, AreShownOver}
 use Rattle.sat_model.specs.Stages.{first_stage}
 use Rattle.sat_model.specs.Verdicts.{BodyPassesBy, BodyPasses, BlocksPass, Judged}
 use Rattle.sat_model.specs.declared.rules.Rules.{Rules}
 use Rattle.sat_model.proofs.CoverLemmas.{inside_holds, epoch_cover, rows_fit}
-use Rattle.sat_model.proofs.EpochLemmas.{fits_in_half_space}
+use Rattle.sat_model.proofs.EpochLemmas.{HullHolds, hull_held, fits_in_half_space}
+use Rattle.sat_model.proofs.FaceLemmas.{held_under}
 
 -- the rows in use at the end are the first ones or those of a renewal
 are_among : (rows : RowsOver) (events : List Event)
@@ -52,20 +58,37 @@ module _ (Meets : LineFact) (rules : Rules) (block : Block) (body : Body)
     holds = λ p inside held. rw first.1 inside;
   }
 
-  bounding : (bounds : List BoundValue)
-      → AreBoundsShown rules.outliers (first_rows block body) body.events bounds
+  -- what fits anywhere in the root lies in a hull
+  abbrev Holds : Option GridBox → Type 0
+  Holds hull = (p : Pos) (b : ℤ) → box_holds body.root p ≡ true
+      → AllBut rules.outliers (IsPossibleByAll (first_rows block body ∷ renewals_in body.events) p b)
+      (numbers_from 0 (length (first_rows block body).rows)) → HullHolds hull p
+
+  bounding : (hull : Option GridBox) → Holds hull → (bounds : List BoundValue)
+      → AreShownOver rules.outliers (first_rows block body) body.events hull bounds
       → AreBounding rules.outliers (first_rows block body) (renewals_in body.events) bounds
-  bounding [] shown = tt
-  bounding (bound ∷ more) shown =
+  bounding hull holds [] shown = tt
+  bounding hull holds (bound ∷ more) shown =
       let here = shown.0 in
-      let fit = suited here.hull here.over here.are_over in (
-        λ p b inside fits. fits_in_half_space bound.half rules.outliers (first_rows block body) body.events here.over here.hull
-            bound.sums epoch fit.one fit.few here.is_hull fit.holds here.shows p b inside fits,
-        bounding more shown.1,
+      let fit = suited here.part here.over here.are_over in
+      let within : (p : Pos) (b : ℤ) → box_holds body.root p ≡ true
+      → AllBut rules.outliers (IsPossibleByAll (first_rows block body ∷ renewals_in body.events) p b)
+      (numbers_from 0 (length (first_rows block body).rows)) → IsInHalfSpace bound.half p =
+      λ p b inside fits.
+      let held = subst (λ (o : Option GridBox). HullHolds o p) here.is_hull (holds p b inside fits) in
+      fits_in_half_space bound.half rules.outliers (first_rows block body) (renewals_in body.events) here.over here.part
+      bound.sums fit.one fit.few here.shows p b held (fit.holds p inside held) fits in (
+        within,
+        bounding (hull_under bound.half hull)
+            (λ p b inside fits. held_under bound.half hull p (holds p b inside fits) (within p b inside fits)) more shown.1,
       )
 
   pub body_cover : BodyCover rules.outliers (first_rows block body) body
-  body_cover = record { epoch = epoch; bounded = bounding body.bounds passes.bounds }
+  body_cover = record {
+    epoch = epoch;
+    bounded = bounding (kept_hull (pieces body.root (steps_in body.events)))
+        (λ p b inside fits. hull_held (pieces body.root (steps_in body.events)) p b (epoch.covers p b inside fits)) body.bounds passes.bounds;
+  }
 
 -- ---- a log
 

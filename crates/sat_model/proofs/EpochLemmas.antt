@@ -1,18 +1,17 @@
--- What fits anywhere in the root of an epoch lies in each half-space that is shown over the hull of
--- its kept boxes.
-use Rattle.std.proofs.Common.{◌≡◌, ℕ, arith, refl, sym, subst, cond, Bool, true, false, List, [], ◌∷◌, length, inl, inr, Option, None, Some}
+-- What fits anywhere in the root of an epoch lies in the hull of its kept boxes, and what fits there in
+-- each half-space that is shown over it.
+use Rattle.std.proofs.Common.{◌≡◌, ℕ, arith, subst, cond, Bool, true, false, List, [], ◌∷◌, length, inl, inr, Option, None, Some}
 use Rattle.std.specs.Prelude.{ℤ, ◌≤◌, slice_get, All, Contains}
-use Rattle.std.proofs.lemmas.Bool.{cases_Bool}
 use Rattle.std.proofs.lemmas.List.Elements.{All-nil, All-cons, All-contains}
 use Rattle.grid_model.specs.declared.boxes.Pos.{Pos}
 use Rattle.grid_model.specs.Boxes.{GridBox, box_holds}
 use Rattle.grid_model.specs.Hulls.{joined_box}
 use Rattle.grid_model.proofs.HullLemmas.{first_inside, second_inside}
 use Rattle.sat_model.specs.declared.rows.Row.{Row}
-use Rattle.sat_model.specs.Cover.{SomeKeeps, IsPossibleByAll, numbers_from, EpochCover}
-use Rattle.sat_model.specs.Events.{Event, RowsOver, steps_in, renewals_in}
+use Rattle.sat_model.specs.Cover.{SomeKeeps, IsPossibleByAll, numbers_from}
+use Rattle.sat_model.specs.Events.{RowsOver}
 use Rattle.sat_model.specs.Fitting.{IsPossible, AllBut}
-use Rattle.sat_model.specs.Fold.{ShownStep, pieces}
+use Rattle.sat_model.specs.Fold.{ShownStep}
 use Rattle.sat_model.specs.HalfSpaces.{IsInHalfSpace, ShowHalfSpace}
 use Rattle.sat_model.specs.KeptHulls.{hull_with, hull_after, hull_behind, kept_hull}
 use Rattle.sat_model.specs.StepKinds.{is_kept_step}
@@ -25,7 +24,7 @@ use Rattle.sat_model.proofs.LawLemmas.{all_in_half_space}
 -- ---- what the hull holds
 
 -- there is a hull, and it holds the point
-abbrev HullHolds : Option GridBox → Pos → Type 0
+abbrev pub HullHolds : Option GridBox → Pos → Type 0
 HullHolds None p = ⊥
 HullHolds (Some hull) p = box_holds hull p ≡ true
 
@@ -60,9 +59,9 @@ kept_held hull (piece ∷ more) p b (inl here) =
     (rw (kept_step piece.step b here.1) (held_new hull piece.part p here.0))
 kept_held hull (piece ∷ more) p b (inr later) = kept_held (hull_after hull piece) more p b later
 
-pub hull_held : (parts : List ShownStep) (hull : GridBox) (p : Pos) (b : ℤ)
-    → kept_hull parts ≡ Some hull → SomeKeeps p b parts → box_holds hull p ≡ true
-hull_held parts hull p b is some = subst (λ (o : Option GridBox). HullHolds o p) is (kept_held None parts p b some)
+pub hull_held : (parts : List ShownStep) (p : Pos) (b : ℤ) → SomeKeeps p b parts
+    → HullHolds (kept_hull parts) p
+hull_held parts p b some = kept_held None parts p b some
 
 -- ---- what is possible by all rows is so by some
 
@@ -77,20 +76,17 @@ by_each (x ∷ all) p b i fact = All-cons (IsPossibleBy p b i) x all fact.0 (by_
 
 -- ---- the law
 
-pub fits_in_half_space : (h : HalfSpace) (q : ℕ) (first : RowsOver) (events : List Event) (some : RowsOver) (hull : GridBox) (sums : List RowSum)
-    → EpochCover q first events → Contains (first ∷ renewals_in events) some
-    → length some.rows ≤ length first.rows → kept_hull (pieces first.part (steps_in events)) ≡ Some hull
-    → ((p : Pos) → box_holds first.part p ≡ true → box_holds hull p ≡ true → box_holds some.part p ≡ true)
+pub fits_in_half_space : (h : HalfSpace) (q : ℕ) (first : RowsOver) (renewals : List RowsOver) (some : RowsOver) (hull : GridBox) (sums : List RowSum)
+    → Contains (first ∷ renewals) some → length some.rows ≤ length first.rows
     → ShowHalfSpace some.rows hull q h sums
-    → (p : Pos) (b : ℤ) → box_holds first.part p ≡ true
-    → AllBut q (IsPossibleByAll (first ∷ renewals_in events) p b) (numbers_from 0 (length first.rows))
+    → (p : Pos) (b : ℤ) → box_holds hull p ≡ true → box_holds some.part p ≡ true
+    → AllBut q (IsPossibleByAll (first ∷ renewals) p b) (numbers_from 0 (length first.rows))
     → IsInHalfSpace h p
-fits_in_half_space h q first events some hull sums covers one few is in_part show p b inside fits =
-    let all = first ∷ renewals_in events in
+fits_in_half_space h q first renewals some hull sums one few show p b held over fits =
+    let all = first ∷ renewals in
     let Fact = IsPossibleByAll all p b in
-    let kept = hull_held (pieces first.part (steps_in events)) hull p b is (covers.covers p b inside fits) in
-    all_in_half_space h some.rows hull q sums show p b kept
+    all_in_half_space h some.rows hull q sums show p b held
     (by_numbers Fact q (IsPossible p b) some.rows 0 (length first.rows) few
     (λ i row fact is_row.
     let each = by_each all p b i (subst Fact (omega arith) fact) in
-    All-contains (IsPossibleBy p b i) all some each one row (in_part p inside kept) is_row) fits)
+    All-contains (IsPossibleBy p b i) all some each one row over is_row) fits)

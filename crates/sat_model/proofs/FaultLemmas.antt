@@ -9,12 +9,14 @@ use Rattle.sat_model.specs.declared.steps.Step.{Step}
 use Rattle.sat_model.specs.declared.steps.Step.TheVariants.{Cut, Split, Outside, Inside, Edge}
 use Rattle.grid_model.specs.Boxes.{GridBox}
 use Rattle.sat_model.specs.BoxTests.{test_in, IsEmpty, IsInner, HoldsHull}
-use Rattle.sat_model.specs.Events.{Event, Made, Renewed, RowsOver}
-use Rattle.sat_model.specs.Fold.{Subpaving, IsLive}
+use Rattle.sat_model.specs.Events.{Event, Made, Renewed, RowsOver, steps_in}
+use Rattle.sat_model.specs.Fold.{Subpaving, IsLive, pieces}
 use Rattle.sat_model.specs.Bounds.{BoundValue}
 use Rattle.sat_model.specs.Logs.{Body, Block, LogValue, first_rows}
+use Rattle.sat_model.specs.KeptHulls.{kept_hull}
+use Rattle.sat_model.specs.MovedFaces.{hull_under}
 use Rattle.sat_model.specs.Renewals.{LineTests, no_tests, LineFails, LinesFail, RenewalFails}
-use Rattle.sat_model.specs.ShownBounds.{IsFirstUnshown}
+use Rattle.sat_model.specs.ShownBounds.{IsFirstUnshownOver}
 use Rattle.sat_model.specs.Stages.{Stage, first_stage, after}
 use Rattle.sat_model.specs.Verdicts.{IsLong, CutsEmptySlab, LiveFails, NotLive, StepFails, DoneFails, EventsFail, BodyFailsBy, HeadFails, IsFirstRepeat, BlockFails, BlocksFail, FirstFault}
 use Rattle.sat_model.proofs.VerdictLemmas.{not_gone, not_failing, step_not_both, AreExclusive, nothing_exclusive, line_not_both, renewal_not_both, events_not_both, head_not_both, block_not_both}
@@ -150,14 +152,14 @@ module _ {Fault : Type 0} (tests : LineTests Fault) (Same : Fault → Fault → 
 
 -- ---- a body
 
-one_unshown : (q : ℕ) (first : RowsOver) (events : List Event) (bounds : List BoundValue) (k m : ℕ)
-    → IsFirstUnshown q first events bounds k → IsFirstUnshown q first events bounds m → k ≡ m
-one_unshown q first events [] k m a b = absurd a
-one_unshown q first events (bound ∷ more) k m (inl a) (inl b) = a.1 ∙ sym b.1
-one_unshown q first events (bound ∷ more) k m (inl a) (inr b) = absurd (a.0 b.0)
-one_unshown q first events (bound ∷ more) k m (inr a) (inl b) = absurd (b.0 a.0)
-one_unshown q first events (bound ∷ more) k m (inr (shown, (i, e, later))) (inr (again, (j, f, late))) =
-    omega (arith, e, f, one_unshown q first events more i j later late)
+one_unshown : (q : ℕ) (first : RowsOver) (events : List Event) (hull : Option GridBox) (bounds : List BoundValue) (k m : ℕ)
+    → IsFirstUnshownOver q first events hull bounds k → IsFirstUnshownOver q first events hull bounds m → k ≡ m
+one_unshown q first events hull [] k m a b = absurd a
+one_unshown q first events hull (bound ∷ more) k m (inl a) (inl b) = a.1 ∙ sym b.1
+one_unshown q first events hull (bound ∷ more) k m (inl a) (inr b) = absurd (a.0 b.0)
+one_unshown q first events hull (bound ∷ more) k m (inr a) (inl b) = absurd (b.0 a.0)
+one_unshown q first events hull (bound ∷ more) k m (inr (shown, (i, e, later))) (inr (again, (j, f, late))) =
+    omega (arith, e, f, one_unshown q first events (hull_under bound.half hull) more i j later late)
 
 pub one_in_body : {Fault : Type 0} (tests : LineTests Fault) (Same : Fault → Fault → Type 0) → AreSharp tests Same
     → (rules : Rules) (block : Block) (body : Body) (k : ℕ) (f : Fault) (m : ℕ) (g : Fault)
@@ -173,7 +175,13 @@ one_in_body tests Same sharp rules block body k f m g (inr a) (inl b) =
     absurd (events_not_both tests sharp.exclusive (first_rows block body) rules body.done
     0 (first_stage (test_in rules block) body.root) body.events m g a.events b)
 one_in_body tests Same sharp rules block body k f m g (inr a) (inr b) = (
-  omega (arith, a.line, b.line, one_unshown rules.outliers (first_rows block body) body.events body.bounds a.m b.m a.unshown b.unshown),
+  omega (
+    arith,
+    a.line,
+    b.line,
+    one_unshown rules.outliers (first_rows block body) body.events
+        (kept_hull (pieces body.root (steps_in body.events))) body.bounds a.m b.m a.unshown b.unshown,
+  ),
   sharp.told f g (a.number ∙ sym b.number) a.plain b.plain,
 )
 

@@ -15,5 +15,6 @@ pub mod BoxTestLemmas
 pub mod EventLemmas
 pub mod SumLemmas
 pub mod LawLemmas
+pub mod FaceLemmas
 pub mod EpochLemmas
 pub mod BoundLemmas

@@ -6,12 +6,14 @@ use Rattle.sat_model.specs.declared.steps.Step.{Step}
 use Rattle.sat_model.specs.declared.steps.Step.TheVariants.{Cut, Split, Outside, Inside, Edge}
 use Rattle.grid_model.specs.Boxes.{GridBox}
 use Rattle.sat_model.specs.BoxTests.{test_in, IsEmpty, IsInner, HoldsHull}
-use Rattle.sat_model.specs.Events.{Event, Made, Renewed, RowsOver}
-use Rattle.sat_model.specs.Fold.{Subpaving, live_box, IsLive}
+use Rattle.sat_model.specs.Events.{Event, Made, Renewed, RowsOver, steps_in}
+use Rattle.sat_model.specs.Fold.{Subpaving, live_box, IsLive, pieces}
 use Rattle.sat_model.specs.Bounds.{BoundValue}
 use Rattle.sat_model.specs.Logs.{Body, Block, LogValue, first_rows}
+use Rattle.sat_model.specs.KeptHulls.{kept_hull}
+use Rattle.sat_model.specs.MovedFaces.{hull_under}
 use Rattle.sat_model.specs.Renewals.{LinePasses, LinesPass, RenewalPasses, LineTests, no_tests, LineFails, LinesFail, RenewalFails}
-use Rattle.sat_model.specs.ShownBounds.{AreBoundsShown, IsFirstUnshown}
+use Rattle.sat_model.specs.ShownBounds.{AreShownOver, IsFirstUnshownOver}
 use Rattle.sat_model.specs.Stages.{Stage, first_stage, after}
 use Rattle.sat_model.specs.Verdicts.{IsLong, CutsEmptySlab, StepPasses, LiveFails, NotLive, StepFails, DonePasses, DoneFails, EventsPass, EventsFail, BodyPassesBy, BodyPasses, BodyFailsBy, HeadPasses, HeadFails, BlockPasses, BlockFails, BlocksPass, BlocksFail, Judged, FirstFault}
 
@@ -118,12 +120,12 @@ head_not_both rules before block number h f = elim f [
 ]
 
 -- a list of bounds that are all shown has none that isn't
-unshown_not_both : (q : ℕ) (first : RowsOver) (events : List Event) (bounds : List BoundValue) (k : ℕ)
-    → AreBoundsShown q first events bounds → IsFirstUnshown q first events bounds k → ⊥
-unshown_not_both q first events [] k h f = f
-unshown_not_both q first events (bound ∷ more) k h f = elim f [
+unshown_not_both : (q : ℕ) (first : RowsOver) (events : List Event) (hull : Option GridBox) (bounds : List BoundValue) (k : ℕ)
+    → AreShownOver q first events hull bounds → IsFirstUnshownOver q first events hull bounds k → ⊥
+unshown_not_both q first events hull [] k h f = f
+unshown_not_both q first events hull (bound ∷ more) k h f = elim f [
   | inl here ↦ here.0 h.0
-  | inr (shown, (m, e, later)) ↦ unshown_not_both q first events more m h.1 later
+  | inr (shown, (m, e, later)) ↦ unshown_not_both q first events (hull_under bound.half hull) more m h.1 later
 ]
 
 pub body_not_both : {Fault : Type 0} (tests : LineTests Fault) → AreExclusive tests
@@ -133,7 +135,8 @@ body_not_both tests exclusive rules block body k fault h (inl fails) =
     events_not_both tests exclusive (first_rows block body) rules body.done
     0 (first_stage (test_in rules block) body.root) body.events k fault h.events fails
 body_not_both tests exclusive rules block body k fault h (inr fails) =
-    unshown_not_both rules.outliers (first_rows block body) body.events body.bounds fails.m h.bounds fails.unshown
+    unshown_not_both rules.outliers (first_rows block body) body.events
+    (kept_hull (pieces body.root (steps_in body.events))) body.bounds fails.m h.bounds fails.unshown
 
 pub block_not_both : (rules : Rules) (before : Option ℕ) (block : Block) (line number : ℕ)
     → BlockPasses rules before block → BlockFails rules before block line number → ⊥

@@ -14,6 +14,7 @@ pub mod Logs
 pub mod Waiting
 pub mod StepKinds
 pub mod KeptHulls
+pub mod MovedFaces
 pub mod ShownBounds
 pub mod Verdicts
 pub mod Cover

@@ -2,3 +2,4 @@ pub mod CutLemmas
 pub mod LiveLemmas
 pub mod GroupLemmas
 pub mod FoldingLemmas
+pub mod MovedLemmas

@@ -5,7 +5,9 @@
 mod cuts;
 mod inside;
 mod live;
+mod moved;
 
 pub use cuts::{is_proper_cut, left_by, slab_of};
 pub use inside::lies_in;
 pub use live::Live;
+pub use moved::box_under;
