@@ -17,7 +17,7 @@ from __future__ import annotations
 import argparse
 import math
 import os
-from collections.abc import Iterator, Sequence
+from collections.abc import Iterable, Iterator, Sequence
 
 from gpscover.bound_search import bounds_over
 from gpscover.command import Command, whole_file
@@ -101,17 +101,22 @@ def axes_of(hull: Box) -> tuple[Whole, ...]:
     return AXES if longest > LONG else ()
 
 
-def bounds_of(epoch: Epoch, count: int = USUAL) -> list[Bound]:
-    """The bounds of an epoch along the axes where its hull is long, and then along so many azimuths, and up and down; none
-    where it keeps no box. Each is sought over what those before leave of the hull."""
-    if not epoch.kept or epoch.root is None:
-        return []
+def bounds_along(epoch: Epoch, ways: Iterable[Whole]) -> list[Bound]:
+    """The bounds of an epoch that keeps a box along some directions, each over what those before leave of the hull."""
     hull, found = hull_of(epoch.boxes), []
-    for way in (*axes_of(hull), *directions(epoch.root, count)):
+    for way in ways:
         for bound in bounds_over(rows_over(epoch, hull), hull, epoch.outliers, [way]):
             found.append(bound)
             hull = hull_under(bound, hull)
     return found
+
+
+def bounds_of(epoch: Epoch, count: int = USUAL) -> list[Bound]:
+    """The bounds of an epoch along the axes where its hull is long, and then along so many azimuths, and up and down; none
+    where it keeps no box."""
+    if not epoch.kept or epoch.root is None:
+        return []
+    return bounds_along(epoch, [*axes_of(hull_of(epoch.boxes)), *directions(epoch.root, count)])
 
 
 def asked_of(epoch: Epoch) -> list[Bound]:
