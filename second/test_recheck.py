@@ -103,6 +103,22 @@ def bound_cases(folder):
         yield (written(folder, f"bound{number}.log", "\n".join([*log, ""])),), wanted
 
 
+def two_bound_cases(folder):
+    """(words, status and line) of the two bounds that docs/LOG.md works out, of which the second stands on the first."""
+    page = (TOP / "docs/LOG.md").read_text()
+    face, by, corner, none = re.search(r"```\n(bound .*)\n(by .*)\n(bound .*)\n(by .*)\n```", page).groups()
+    lines = (TOP / "examples/renewed-rows.log").read_text().splitlines()
+    lines = ["gpscover 4", *lines[1:15], "edge 0 -11000000 11000000", lines[18]]
+    first, second = (1, "no 66 BoundNotShown line 18\n"), (1, "no 66 BoundNotShown line 20\n")
+    for number, (bounds, wanted) in enumerate((
+            ([face, by, corner, none], (0, "yes 1\n")), ([corner, none], first), ([corner, none, face, by], first),
+            ([face.replace("1000004", "1000003"), by, corner, none], first),
+            ([face, by, corner.replace("2000004", "2000003"), none], second),
+            ([face.replace("1000004", "6250001"), by, corner, none], second),
+            ([face.replace("1 0 0 1000004", "2 0 0 2000008"), by.replace("8388608", "4194304"), corner, none], second))):
+        yield (written(folder, f"two_bounds{number}.log", "\n".join([*lines, *bounds, ""])),), wanted
+
+
 def bound_values():
     """(what, found, wanted) of sums of rows: which are left whichever rows are left out, and what they show."""
     by = [[1, *(number for place in places for number in (place, 0))]
@@ -980,8 +996,8 @@ def station_row_cases(folder):
 
 # The folder goes with the tests' process.
 ROOM = tempfile.TemporaryDirectory()
-WORDS = (verdict_cases, bound_cases, zenith_cases, mapped_cases, pair_cases, pair_settings_cases, track_cases, speed_cases,
-         selection_cases, station_skip_cases, station_file_cases, station_row_cases)
+WORDS = (verdict_cases, bound_cases, two_bound_cases, zenith_cases, mapped_cases, pair_cases, pair_settings_cases,
+         track_cases, speed_cases, selection_cases, station_skip_cases, station_file_cases, station_row_cases)
 VALUES = value_cases, tube_values
 
 

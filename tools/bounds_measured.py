@@ -68,9 +68,9 @@ class Runner:
         return [self.data / f"{name}.obs", self.data / f"{name}.nav", path, self.room / "a.log", *options]
 
     def solved(self, name, text, options):
-        """The epochs of a run that keep a box."""
+        """The paved epochs of a run."""
         ended([self.program, "solve", *self.files(name, text, options), "--quiet"])
-        return [epoch for epoch in epochs(self.room / "a.log") if epoch.kept]
+        return [epoch for epoch in epochs(self.room / "a.log") if not epoch.few]
 
     def yes(self, name, text, options):
         """What all checkers say of the log of the last run."""
@@ -84,7 +84,7 @@ class Runner:
 
 def ends_of(values):
     """A mean and the greatest, in mm."""
-    return f"{sum(values) / len(values):.1f}, {max(values):.0f} mm"
+    return f"{sum(values) / len(values):.1f}, {max(values):.0f} mm" if values else "none"
 
 
 def print_near(runner, every, options):
@@ -97,8 +97,9 @@ def print_near(runner, every, options):
             found, exact = runner.solved(name, text, options), Exact()
             ten = sum(len(epoch.bounds) >= ASKED for epoch in found)
             size = sum(len(line) + 1 for epoch in found for bound in epoch.bounds for line in bound_lines(bound))
-            further = [more for epoch in found[every - 1 :: every] for more in exact.excesses(epoch, asked_of(epoch))]
-            cells = f"{name}, {mode}", outliers, len(found), ten, f"{size / len(found):,.0f}", ends_of(further)
+            compared = [epoch for epoch in found[every - 1 :: every] if epoch.kept]
+            more = [excess for epoch in compared for excess in exact.excesses(epoch, asked_of(epoch))]
+            cells = f"{name}, {mode}", outliers, len(found), ten, f"{size / len(found):,.0f}", ends_of(more)
             print("|", " | ".join(map(str, (*cells, runner.yes(name, text, options)))), "|", flush=True)
 
 
@@ -121,7 +122,7 @@ def print_far(runner, epochs_most):
                 values = {"half": half, "bisections": splits, "outliers": 1, "renew": "true"}
                 runs.append(runner.solved(name, mapped(settings_of(runner.data, name, "single", values)), options))
             if len(runs[0]) != len(runs[1]):
-                raise Failed(f"the runs of {name} don't keep boxes in the same epochs")
+                raise Failed(f"the runs of {name} don't pave the same epochs")
             cells.append(ends_of([more for near, far in zip(*runs) for more in further(near, far)]))
         print("|", " | ".join([name, *cells]), "|", flush=True)
 
