@@ -104,7 +104,7 @@ def bound_cases(folder):
 
 
 def two_bound_cases(folder):
-    """(words, status and line) of the two bounds that docs/LOG.md works out, of which the second stands on the first."""
+    """(words, status and line) of the two bounds that docs/LOG.md works out: the second stands on the first."""
     page = (TOP / "docs/LOG.md").read_text()
     face, by, corner, none = re.search(r"```\n(bound .*)\n(by .*)\n(bound .*)\n(by .*)\n```", page).groups()
     lines = (TOP / "examples/renewed-rows.log").read_text().splitlines()
@@ -115,7 +115,8 @@ def two_bound_cases(folder):
             ([face.replace("1000004", "1000003"), by, corner, none], first),
             ([face, by, corner.replace("2000004", "2000003"), none], second),
             ([face.replace("1000004", "6250001"), by, corner, none], second),
-            ([face.replace("1 0 0 1000004", "2 0 0 2000008"), by.replace("8388608", "4194304"), corner, none], second))):
+            ([face.replace("1 0 0 1000004", "2 0 0 2000008"), by.replace("8388608", "4194304"), corner, none],
+             second))):
         yield (written(folder, f"two_bounds{number}.log", "\n".join([*lines, *bounds, ""])),), wanted
 
 

@@ -3,15 +3,16 @@
 
 usage: python3 -m tools.bounds_measured PROGRAM DATA [--every N] [--to N]
 
-PROGRAM is the built program, and DATA a folder with the files NAME.obs, NAME.nav and NAME_MODE.toml of the recorded pairs. Each
-run has eight azimuths, pairs, and the settings of its pair but for what is said here.
+PROGRAM is the built program, and DATA a folder with the files NAME.obs, NAME.nav and NAME_MODE.toml of the recorded
+pairs. Each run has eight azimuths, pairs, and the settings of its pair but for what is said here.
 
-- Of the six pairs in their modes, all epochs (or the first N of --to), half side 1 km, 8 splits, q = 0, 1 and 2: how many epochs are
-  paved and how many of these have ten bounds or more; the bytes of the bounds an epoch; how much further the bounds that were asked
-  for lie than the exact ones in every N-th epoch (6), on average and at worst, by tools/certified_table.py; and the yes that
-  `check`, `judge` and the second checker say.
-- From far: of the four pairs in single mode the first 60 epochs, with the delays mapped by elevation, rows renewed, and q = 1, from
-  half sides of 1 and of 100 km: how much further the bounds from 100 km lie, on average and at worst, with 8 and 64 splits.
+- Of the six pairs in their modes, all epochs (or the first N of --to), half side 1 km, 8 splits, q = 0, 1 and 2: how
+  many epochs are paved and how many of these have ten bounds or more; the bytes of the bounds an epoch; how much
+  further the bounds that were asked for lie than the exact ones in every N-th epoch (6), on average and at worst, by
+  tools/certified_table.py; and the yes that `check`, `judge` and the second checker say.
+- From far: of the four pairs in single mode the first 60 epochs, with the delays mapped by elevation, rows renewed, and
+  q = 1, from half sides of 1 and of 100 km: how much further the bounds from 100 km lie, on average and at worst, with
+  8 and 64 splits.
 
 Exit status: 0; 1 where a run fails, a yes differs or a file can't be read; 2 for a wrong command line.
 """

@@ -6,13 +6,13 @@ usage: python3 -m tools.certified_table LOG [LOG ...] [--directions 4|8|16] [--e
 A row of the table is of a log in which no rows are renewed. It has q and the splits, by how much on average the kept
 boxes reach further along east, north and up than what the rows allow exactly, in percent and in metres, and how much
 further the bounds go that an epoch has, or that `gpslog bounded` finds where it has none: on average and at worst over
-all directions that were asked for, in mm. Then how many of these bounds there are, the bytes that an epoch takes without bounds
-and those of all its bounds, with the ones along the axes of a long hull, and the processor time that finding them takes an epoch.
-Of every N-th epoch (1).
+all directions that were asked for, in mm. Then how many of these bounds there are, the bytes that an epoch takes
+without bounds and those of all its bounds, with the ones along the axes of a long hull, and the processor time that
+finding them takes an epoch. Of every N-th epoch (1).
 
-The exact region is that of tools/exact_extents.py along the directions of the bounds, with each row as wide as the span of
-its satellite's place makes it, which is left out there (some 0.1 m), and with corners that are moved to where the four
-ranges themselves meet, by Newton's method: linear ones are off by 8 mm half a km away. They are floats.
+The exact region is that of tools/exact_extents.py along the directions of the bounds, with each row as wide as the span
+of its satellite's place makes it, which is left out there (some 0.1 m), and with corners that are moved to where the
+four ranges themselves meet, by Newton's method: linear ones are off by 8 mm half a km away. They are floats.
 
 Exit status: 0; 1 where a file can't be read, or LOG is no whole log; 2 for a wrong command line.
 """
@@ -42,7 +42,7 @@ def loose_row(row, centre):
 
 
 def meeting(rows, ends):
-    """The point and clock offset where linear rows are at their low ends (1) or high ones (2); None where they are none."""
+    """The point and clock offset where linear rows are at their low ends (1) or high ones (2); None where none is."""
     inverted = inverse([row[0] for row in rows])
     wanted = [row[end] for row, end in zip(rows, ends)]
     return inverted and [sum(a * b for a, b in zip(line, wanted)) for line in inverted]
@@ -69,7 +69,8 @@ def moved(rows, four, ends, start, needed):
 def true_corners(rows, needed, centre):
     """The corners of what all but some rows allow, as points in m from a point near them."""
     linear = [loose_row(row, centre) for row in rows]
-    for four, ends in itertools.product(itertools.combinations(range(len(rows)), 4), itertools.product((1, 2), repeat=4)):
+    fours, sides = itertools.combinations(range(len(rows)), 4), itertools.product((1, 2), repeat=4)
+    for four, ends in itertools.product(fours, sides):
         corner = meeting([linear[k] for k in four], ends)
         if corner and held(linear, corner, NEAR_M) >= needed:
             start = [a + b for a, b in zip(centre, corner)]

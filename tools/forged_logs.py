@@ -620,8 +620,8 @@ def bounds_by_renewed_rows():
 
 
 def bounds_along_axes():
-    """In the one box all is shown by two rows that contradict each other, whatever is aimed at; and sums of no rows show how
-    far the hull is from which a later bound is seen. So it is told which of its six faces a bound moves, and where to."""
+    """In the one box all is shown by two rows that contradict each other, whatever is aimed at; sums of no rows show
+    how far the hull of a later bound goes. So it is told which of its six faces a bound moves, and where to."""
     far = ONE_BOX[4].replace(" 20000000000000 20000000000000 -", " 20000010000000 20000010000000 -")
     lines, by = put(BOUNDED, 5, far), "by 0 0 1 1 -1 0 0 0 0 0 0"
     line = len(lines) + 1
@@ -646,19 +646,20 @@ def bounds_along_axes():
             yield from behind((plain, most), plain, half[axis])
             yield from behind((plain, most), opposite, half[axis])
         # Along the axis, but not in plain numbers, or not along it.
-        for other in (tuple(2 * part for part in plain), tuple(10**6 * part for part in plain), (1, 1, 0), (0, -1, 1), (0, 0, 0),
-                      tuple(part or 1 for part in plain)):
+        longer = [tuple(times * part for part in plain) for times in (2, 10**6)]
+        for other in (*longer, (1, 1, 0), (0, -1, 1), (0, 0, 0), tuple(part or 1 for part in plain)):
             yield from behind((other, 0), plain, half[axis])
             yield from behind((other, 0), opposite, half[axis])
     # Each one moves what those before left, and a face may come back to no place where it was.
     x, back = (1, 0, 0), (-1, 0, 0)
     for most, left in ((500000, 500000), (300000, 300000), (700000, 500000)):
-        yield [*lines, *bound(x, 500000, by), *bound(x, most, by), *bound(x, left, nothing())], "yes 1"
-        yield [*lines, *bound(x, 500000, by), *bound(x, most, by), *bound(x, left - 1, nothing())], f"{UNSHOWN} {line + 4}"
-    for most, left in ((-500000, 500000), (-500001, 1000000)):  # the low end may become the high one, and not more
+        two = [*bound(x, 500000, by), *bound(x, most, by)]
+        yield [*lines, *two, *bound(x, left, nothing())], "yes 1"
+        yield [*lines, *two, *bound(x, left - 1, nothing())], f"{UNSHOWN} {line + 4}"
+    for most, left in ((-500000, -500000), (-500001, 1000000)):  # the low end may become the high one, and not more
         two = [*bound(x, 500000, by), *bound(back, most, by)]
-        yield [*lines, *two, *bound(back, -left if left == 500000 else left, nothing())], "yes 1"
-        yield [*lines, *two, *bound(back, (-left if left == 500000 else left) - 1, nothing())], f"{UNSHOWN} {line + 4}"
+        yield [*lines, *two, *bound(back, left, nothing())], "yes 1"
+        yield [*lines, *two, *bound(back, left - 1, nothing())], f"{UNSHOWN} {line + 4}"
     # Each epoch begins with its own hull.
     later = ["epoch 2 1388102400000000000000 4", *lines[3:]]
     begun = [*lines, *bound(x, 0, by), *later]
@@ -667,8 +668,8 @@ def bounds_along_axes():
 
 
 def bounds_over_narrowed_hulls():
-    """By the first rows x is at most 5.000004 m over a hull from x = -6 m to 6.25 m: around x = 0.125 m the form of G05 has the
-    slope 4194303 and U = 20447248513607, and that of G01 -4194304 and L = -20447244268514."""
+    """By the first rows x is at most 5.000004 m over a hull from x = -6 m to 6.25 m: around x = 0.125 m the form of G05
+    has the slope 4194303 and U = 20447248513607, and that of G01 -4194304 and L = -20447244268514."""
     by, x = "by 8388608 0 -1 3 1 0 0 0 0 0 0", (1, 0, 0)
     made = put(with_renewals([CUTS_LEAVE]), 1, "gpscover 4")
     line, end = len(made) + 1, 5000004
@@ -682,13 +683,14 @@ def bounds_over_narrowed_hulls():
     yield [*made, *bound(x, end - 1, by), *corner], f"{UNSHOWN} {line}"
     yield [*made, *face, *bound((1, 1, 0), end + 999999, nothing())], f"{UNSHOWN} {line + 2}"
     yield [*made, *bound(x, end + 1, by), *corner], f"{UNSHOWN} {line + 2}"
-    for other in (bound(x, 6250001, by), bound(x, 6250000, by), bound((2, 0, 0), 2 * end, by.replace("8388608", "4194304"))):
+    twice = bound((2, 0, 0), 2 * end, by.replace("8388608", "4194304"))
+    for other in (bound(x, 6250001, by), bound(x, 6250000, by), twice):
         yield [*made, *other, *bound((1, 1, 0), 7250000, nothing())], "yes 1"
         yield [*made, *other, *bound((1, 1, 0), 7249999, nothing())], f"{UNSHOWN} {line + 2}"
         yield [*made, *other, *corner], f"{UNSHOWN} {line + 2}"
         yield [*made, *other, *face, *corner], "yes 1"
-    # The last renewal is over less than the kept boxes. Its rows are taken where what is left of their hull lies in it, so that
-    # twice x is at most twice an error of 1 m; and not where a face is 1 um beyond.
+    # The last renewal is over less than the kept boxes. Its rows are taken where what is left of their hull lies in it,
+    # so that twice x is at most twice an error of 1 m; and not where a face is 1 um beyond.
     for high, answer in (end, "yes 1"), (end - 1, f"{UNSHOWN} {line + 7}"):
         made = put(with_renewals([CUTS_LEAVE], renewal((*BOX[:3], high, *BOX[4:]))), 1, "gpscover 4")
         near = bound(x, 1000050, by)

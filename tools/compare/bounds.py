@@ -1,8 +1,8 @@
 """Logs with bounds for compare.py: right ones, forged ones and drawn ones.
 
-They come of tools/bound_cases.py, over a root that is one box, or of the search of `gpslog bounded`, behind the steps of a log, some of
-them behind bounds along the axes that narrow the hull. Many have something changed: whether a bound is right is for both checkers to
-say. For those over one box the definitions of bound_cases.py say it too.
+They come of tools/bound_cases.py, over a root that is one box, or of the search of `gpslog bounded`, behind the steps
+of a log, some of them behind bounds along the axes that narrow the hull. Many have something changed: whether a bound
+is right is for both checkers to say. For those over one box the definitions of bound_cases.py say it too.
 """
 
 from gpscover.bound_search import bounds_over
@@ -141,7 +141,8 @@ class Behind:
     def chosen(self, chance):
         """(name, bounds): up to three bounds in any order, or most of those behind bounds along the axes, in theirs."""
         if chance.randrange(3) == 0:
-            left = sorted(chance.sample(range(len(self.behind_axes)), len(self.behind_axes) - chance.choice((0, 0, 1, 2, 4))))
+            number = len(self.behind_axes)
+            left = sorted(chance.sample(range(number), number - chance.choice((0, 0, 1, 2, 4))))
             return "bounds behind the axes", [self.behind_axes[k] for k in left]
         name, some = chance.choice((("its bounds", self.bounds), ("bounds by narrower rows", self.by_narrow)))
         return name, chance.sample(some, chance.randint(1, min(3, len(some))))

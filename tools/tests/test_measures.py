@@ -97,18 +97,21 @@ class TestTrueCorners:
 
 class TestBoundsMeasured:
     def test_how_much_further_bounds_lie(self):
-        near, far = (epoch_of(PAVED + "".join(f"bound {x} {y} 0 {most} 1\nby 0{' 0' * 10}\n" for x, y, most in some), HEAD_4)
-                     for some in ([(3, 4, 0), (0, 1, 5)], [(0, 1, 5005), (1, 1, 7), (3, 4, -10_000)]))
-        assert bounds_measured.further(near, far) == [5, -2]
+        found = []
+        for some in ([(3, 4, 0), (0, 1, 5)], [(0, 1, 5005), (1, 1, 7), (3, 4, -10_000)]):
+            lines = (f"bound {x} {y} 0 {most} 1\nby 0{' 0' * 10}\n" for x, y, most in some)
+            found.append(epoch_of(PAVED + "".join(lines), HEAD_4))
+        assert bounds_measured.further(*found) == [5, -2]
         assert bounds_measured.ends_of([5, -2]) == "1.5, 5 mm"
         assert bounds_measured.ends_of([]) == "none"
 
     def test_settings(self, tmp_path):
-        (tmp_path / "a_single.toml").write_text("[search]\nhalf = 1\n[bounds]\nionosphere = [0, 1]\ntroposphere = [2, 3]\n")
+        text = "[search]\nhalf = 1\n[bounds]\nionosphere = [0, 1]\ntroposphere = [2, 3]\n"
+        (tmp_path / "a_single.toml").write_text(text)
         made = bounds_measured.settings_of(tmp_path, "a", "single", {"half": 7})
         assert sorted(made.splitlines()[:4]) == ["[search]", "directions = 8", "half = 7", "pairs = true"]
-        text = bounds_measured.mapped(made)
-        assert text.endswith("[bounds]\nionosphere = [0, 0]\nvertical = [0, 10000]\ntroposphere = [0, 0]\nzenith = [1600, 3000]\n")
+        above = "ionosphere = [0, 0]\nvertical = [0, 10000]\ntroposphere = [0, 0]\nzenith = [1600, 3000]\n"
+        assert bounds_measured.mapped(made).endswith(f"[bounds]\n{above}")
         with pytest.raises(pairs_table.Failed):
             bounds_measured.mapped("[bounds]\n")
 
