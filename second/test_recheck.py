@@ -139,6 +139,18 @@ def bound_values():
             yield f"an end of {upper} at place {place}", found, wanted
 
 
+def left_values():
+    """(what, found, wanted) of what a bound leaves of the box over which it is shown."""
+    box = [-5, 10, -30, 7, 20, -10]
+    for direction, most, wanted in (
+            ([1, 0, 0], 3, [-5, 10, -30, 3, 20, -10]), ([1, 0, 0], -5, [-5, 10, -30, -5, 20, -10]),
+            ([-1, 0, 0], 5, box), ([-1, 0, 0], -7, [7, 10, -30, 7, 20, -10]), ([-1, 0, 0], -8, box), ([1, 0, 0], 8, box),
+            ([0, 1, 0], 10, [-5, 10, -30, 7, 10, -10]), ([0, 1, 0], 9, box), ([0, -1, 0], -12, [-5, 12, -30, 7, 20, -10]),
+            ([0, 0, 1], -11, [-5, 10, -30, 7, 20, -11]), ([0, 0, -1], 11, [-5, 10, -11, 7, 20, -10]),
+            ([0, 0, 1], -9, box), ([2, 0, 0], 6, box), ([0, 0, -2], 22, box), ([1, 1, 0], 12, box), ([0, 0, 0], 0, box)):
+        yield f"{direction} at {most}", recheck.left_by_bound(box, direction, most), wanted
+
+
 def wrong_word_cases():
     """(words, status and line) of wrong command lines."""
     options = [("--from", number) for number in ("0", "02", "+2", "-2", "2.0", "200001", "x", "")]
@@ -1000,6 +1012,7 @@ ROOM = tempfile.TemporaryDirectory()
 WORDS = (verdict_cases, bound_cases, two_bound_cases, zenith_cases, mapped_cases, pair_cases, pair_settings_cases,
          track_cases, speed_cases, selection_cases, station_skip_cases, station_file_cases, station_row_cases)
 VALUES = value_cases, tube_values
+ALONE = both_values, bound_values, left_values
 
 
 def named(makers, *more):
@@ -1030,7 +1043,7 @@ def test_the_program_says(program, words, wanted):
     expect(program_verdict(program, words), wanted)
 
 
-@pytest.mark.parametrize("what, found, wanted", [*named(VALUES, ROOM.name), *named([both_values, bound_values])])
+@pytest.mark.parametrize("what, found, wanted", [*named(VALUES, ROOM.name), *named(ALONE)])
 def test_a_value(what, found, wanted):
     assert found == wanted, what
 

@@ -89,8 +89,7 @@ def lies_in(box: Box, other: Box) -> bool:
 
 
 def rows_over(epoch: Epoch, hull: Box) -> list[Row]:
-    """The rows that show bounds over the hull of the kept boxes: those in use at the end where it lies in their box, and
-    else the first ones."""
+    """The rows that show bounds over a hull: those in use at the end where it lies in their box, else the first ones."""
     last = epoch.renewals[-1:]
     return last[0].rows if last and lies_in(hull, last[0].box) else epoch.rows
 
