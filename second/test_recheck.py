@@ -103,6 +103,23 @@ def bound_cases(folder):
         yield (written(folder, f"bound{number}.log", "\n".join([*log, ""])),), wanted
 
 
+def two_bound_cases(folder):
+    """(words, status and line) of the two bounds that docs/LOG.md works out: the second stands on the first."""
+    page = (TOP / "docs/LOG.md").read_text()
+    face, by, corner, none = re.search(r"```\n(bound .*)\n(by .*)\n(bound .*)\n(by .*)\n```", page).groups()
+    lines = (TOP / "examples/renewed-rows.log").read_text().splitlines()
+    lines = ["gpscover 4", *lines[1:15], "edge 0 -11000000 11000000", lines[18]]
+    first, second = (1, "no 66 BoundNotShown line 18\n"), (1, "no 66 BoundNotShown line 20\n")
+    for number, (bounds, wanted) in enumerate((
+            ([face, by, corner, none], (0, "yes 1\n")), ([corner, none], first), ([corner, none, face, by], first),
+            ([face.replace("1000004", "1000003"), by, corner, none], first),
+            ([face, by, corner.replace("2000004", "2000003"), none], second),
+            ([face.replace("1000004", "6250001"), by, corner, none], second),
+            ([face.replace("1 0 0 1000004", "2 0 0 2000008"), by.replace("8388608", "4194304"), corner, none],
+             second))):
+        yield (written(folder, f"two_bounds{number}.log", "\n".join([*lines, *bounds, ""])),), wanted
+
+
 def bound_values():
     """(what, found, wanted) of sums of rows: which are left whichever rows are left out, and what they show."""
     by = [[1, *(number for place in places for number in (place, 0))]
@@ -120,6 +137,18 @@ def bound_values():
         for place in 2, 3:
             found = recheck.sum_shows(far, box, [1, 0, 0, 5, 1], [2 * scale, *two[:-2], place, 0])
             yield f"an end of {upper} at place {place}", found, wanted
+
+
+def left_values():
+    """(what, found, wanted) of what a bound leaves of the box over which it is shown."""
+    box = [-5, 10, -30, 7, 20, -10]
+    for direction, most, wanted in (
+            ([1, 0, 0], 3, [-5, 10, -30, 3, 20, -10]), ([1, 0, 0], -5, [-5, 10, -30, -5, 20, -10]),
+            ([-1, 0, 0], 5, box), ([-1, 0, 0], -7, [7, 10, -30, 7, 20, -10]), ([-1, 0, 0], -8, box), ([1, 0, 0], 8, box),
+            ([0, 1, 0], 10, [-5, 10, -30, 7, 10, -10]), ([0, 1, 0], 9, box), ([0, -1, 0], -12, [-5, 12, -30, 7, 20, -10]),
+            ([0, 0, 1], -11, [-5, 10, -30, 7, 20, -11]), ([0, 0, -1], 11, [-5, 10, -11, 7, 20, -10]),
+            ([0, 0, 1], -9, box), ([2, 0, 0], 6, box), ([0, 0, -2], 22, box), ([1, 1, 0], 12, box), ([0, 0, 0], 0, box)):
+        yield f"{direction} at {most}", recheck.left_by_bound(box, direction, most), wanted
 
 
 def wrong_word_cases():
@@ -980,9 +1009,10 @@ def station_row_cases(folder):
 
 # The folder goes with the tests' process.
 ROOM = tempfile.TemporaryDirectory()
-WORDS = (verdict_cases, bound_cases, zenith_cases, mapped_cases, pair_cases, pair_settings_cases, track_cases, speed_cases,
-         selection_cases, station_skip_cases, station_file_cases, station_row_cases)
+WORDS = (verdict_cases, bound_cases, two_bound_cases, zenith_cases, mapped_cases, pair_cases, pair_settings_cases,
+         track_cases, speed_cases, selection_cases, station_skip_cases, station_file_cases, station_row_cases)
 VALUES = value_cases, tube_values
+ALONE = both_values, bound_values, left_values
 
 
 def named(makers, *more):
@@ -1013,7 +1043,7 @@ def test_the_program_says(program, words, wanted):
     expect(program_verdict(program, words), wanted)
 
 
-@pytest.mark.parametrize("what, found, wanted", [*named(VALUES, ROOM.name), *named([both_values, bound_values])])
+@pytest.mark.parametrize("what, found, wanted", [*named(VALUES, ROOM.name), *named(ALONE)])
 def test_a_value(what, found, wanted):
     assert found == wanted, what
 

@@ -619,6 +619,86 @@ def bounds_by_renewed_rows():
         yield [*made, *bound((1, 0, 0), 999999, by)], f"{UNSHOWN} {len(made) + 1}"
 
 
+def bounds_along_axes():
+    """In the one box all is shown by two rows that contradict each other, whatever is aimed at; sums of no rows show
+    how far the hull of a later bound goes. So it is told which of its six faces a bound moves, and where to."""
+    far = ONE_BOX[4].replace(" 20000000000000 20000000000000 -", " 20000010000000 20000010000000 -")
+    lines, by = put(BOUNDED, 5, far), "by 0 0 1 1 -1 0 0 0 0 0 0"
+    line = len(lines) + 1
+    half = 1000000, 900000, 900000
+
+    def behind(first, direction, most, answer="yes 1"):
+        """A log with one bound, and one behind it along a direction that sums of no rows show."""
+        shown = [*lines, *bound(*first, by), *bound(direction, most, nothing())]
+        less = [*lines, *bound(*first, by), *bound(direction, most - 1, nothing())]
+        return (shown, answer), (less, f"{UNSHOWN} {line + 2}")
+
+    for axis, sign in itertools.product(range(3), (1, -1)):
+        plain = tuple(sign * (axis == other) for other in range(3))
+        opposite, whole = tuple(-part for part in plain), sum(half)
+        for most in 0, -7, 123456, half[axis] - 1, half[axis], -half[axis]:  # the ends of the side too
+            yield from behind((plain, most), plain, most)
+            yield from behind((plain, most), tuple(2 * part for part in plain), 2 * most)
+            yield from behind((plain, most), opposite, half[axis])
+            corner = tuple(part or 1 for part in plain)
+            yield from behind((plain, most), corner, whole - half[axis] + most)
+        for most in half[axis] + 1, -half[axis] - 1, 9 * 10**18, -9 * 10**18:  # not in the side
+            yield from behind((plain, most), plain, half[axis])
+            yield from behind((plain, most), opposite, half[axis])
+        # Along the axis, but not in plain numbers, or not along it.
+        longer = [tuple(times * part for part in plain) for times in (2, 10**6)]
+        for other in (*longer, (1, 1, 0), (0, -1, 1), (0, 0, 0), tuple(part or 1 for part in plain)):
+            yield from behind((other, 0), plain, half[axis])
+            yield from behind((other, 0), opposite, half[axis])
+    # Each one moves what those before left, and a face may come back to no place where it was.
+    x, back = (1, 0, 0), (-1, 0, 0)
+    for most, left in ((500000, 500000), (300000, 300000), (700000, 500000)):
+        two = [*bound(x, 500000, by), *bound(x, most, by)]
+        yield [*lines, *two, *bound(x, left, nothing())], "yes 1"
+        yield [*lines, *two, *bound(x, left - 1, nothing())], f"{UNSHOWN} {line + 4}"
+    for most, left in ((-500000, -500000), (-500001, 1000000)):  # the low end may become the high one, and not more
+        two = [*bound(x, 500000, by), *bound(back, most, by)]
+        yield [*lines, *two, *bound(back, left, nothing())], "yes 1"
+        yield [*lines, *two, *bound(back, left - 1, nothing())], f"{UNSHOWN} {line + 4}"
+    # Each epoch begins with its own hull.
+    later = ["epoch 2 1388102400000000000000 4", *lines[3:]]
+    begun = [*lines, *bound(x, 0, by), *later]
+    yield [*begun, *bound(x, 1000000, nothing())], "yes 2"
+    yield [*begun, *bound(x, 999999, nothing())], f"{UNSHOWN} {len(begun) + 1}"
+
+
+def bounds_over_narrowed_hulls():
+    """By the first rows x is at most 5.000004 m over a hull from x = -6 m to 6.25 m: around x = 0.125 m the form of G05
+    has the slope 4194303 and U = 20447248513607, and that of G01 -4194304 and L = -20447244268514."""
+    by, x = "by 8388608 0 -1 3 1 0 0 0 0 0 0", (1, 0, 0)
+    made = put(with_renewals([CUTS_LEAVE]), 1, "gpscover 4")
+    line, end = len(made) + 1, 5000004
+    face = bound(x, end, by)
+    yield [*made, *face], "yes 1"
+    yield [*made, *bound(x, end - 1, by)], f"{UNSHOWN} {line}"
+    corner = bound((1, 1, 0), end + 1000000, nothing())
+    yield [*made, *face, *corner], "yes 1"
+    yield [*made, *corner], f"{UNSHOWN} {line}"
+    yield [*made, *corner, *face], f"{UNSHOWN} {line}"
+    yield [*made, *bound(x, end - 1, by), *corner], f"{UNSHOWN} {line}"
+    yield [*made, *face, *bound((1, 1, 0), end + 999999, nothing())], f"{UNSHOWN} {line + 2}"
+    yield [*made, *bound(x, end + 1, by), *corner], f"{UNSHOWN} {line + 2}"
+    twice = bound((2, 0, 0), 2 * end, by.replace("8388608", "4194304"))
+    for other in (bound(x, 6250001, by), bound(x, 6250000, by), twice):
+        yield [*made, *other, *bound((1, 1, 0), 7250000, nothing())], "yes 1"
+        yield [*made, *other, *bound((1, 1, 0), 7249999, nothing())], f"{UNSHOWN} {line + 2}"
+        yield [*made, *other, *corner], f"{UNSHOWN} {line + 2}"
+        yield [*made, *other, *face, *corner], "yes 1"
+    # The last renewal is over less than the kept boxes. Its rows are taken where what is left of their hull lies in it,
+    # so that twice x is at most twice an error of 1 m; and not where a face is 1 um beyond.
+    for high, answer in (end, "yes 1"), (end - 1, f"{UNSHOWN} {line + 7}"):
+        made = put(with_renewals([CUTS_LEAVE], renewal((*BOX[:3], high, *BOX[4:]))), 1, "gpscover 4")
+        near = bound(x, 1000050, by)
+        yield [*made, *near], f"{UNSHOWN} {line + 5}"
+        yield [*made, *face, *near], answer
+        yield [*made, *face, *bound(x, 999950, by)], f"{UNSHOWN} {line + 7}"
+
+
 def bounds_that_do_not_fit():
     """Bounds where none may stand, and lines that don't fit."""
     whole = [*BOUNDED, DIFFERENCE, BY_TWO]
@@ -675,7 +755,7 @@ def bounded_logs():
     for more, answer in sums_of_two_rows():
         yield [*BOUNDED, *more], answer
     for table in (bounds_where_nothing_fits, bounds_with_wide_rows, bounds_with_an_outlier, bounds_with_eight_outliers,
-                  bounds_by_renewed_rows, bounds_that_do_not_fit):
+                  bounds_by_renewed_rows, bounds_along_axes, bounds_over_narrowed_hulls, bounds_that_do_not_fit):
         yield from table()
 
 

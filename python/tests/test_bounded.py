@@ -5,7 +5,7 @@ import csv
 import math
 
 import pytest
-from made_logs import EXAMPLES, HEAD, PAVED, RECORDED, TOP, WITHIN, ended, epoch_of
+from made_logs import EXAMPLES, HEAD, PAVED, RECORDED, TOP, WITHIN, box_at, ended, epoch_of
 
 from gpscover import bounded, certified, export, integrity, known, page, region, row_sums, summary
 from gpscover.beside import Beside
@@ -95,6 +95,53 @@ class TestCommand:
         path.write_text(HEAD + "few 1 0 4\nepoch 2 1000000000000 0\nroot 0 0 0 1 1 1\nout 0\ndone 0\n")
         assert ended(bounded, path, tmp_path / "new.log") == (0, "", "")
         assert (tmp_path / "new.log").read_text() == path.read_text().replace("gpscover 1", "gpscover 4")
+
+
+class TestNarrowed:
+    """What bounds along axes leave of a hull, and which bounds were asked for."""
+
+    HULL = Box(-5, 10, -30, 7, 20, -10)
+
+    def left(self, direction, most):
+        """What a bound leaves of the hull."""
+        return row_sums.hull_under(bound(direction, most), self.HULL)
+
+    def test_a_face_is_moved_to_an_end_in_its_side(self):
+        for axis, low, high in zip(range(3), self.HULL.low, self.HULL.high):
+            plain = tuple(int(axis == k) for k in range(3))
+            for end in (low, low + 1, high - 1, high):
+                ends = list(self.HULL)
+                assert self.left(plain, end) == Box(*ends[: axis + 3], end, *ends[axis + 4 :])
+                assert self.left(bounded.negative(plain), -end) == Box(*ends[:axis], end, *ends[axis + 1 :])
+
+    def test_else_none_is(self):
+        for axis, low, high in zip(range(3), self.HULL.low, self.HULL.high):
+            plain = tuple(int(axis == k) for k in range(3))
+            for end in (low - 1, high + 1, 9 * 10**18, -9 * 10**18):
+                assert self.left(plain, end) == self.left(bounded.negative(plain), -end) == self.HULL
+            for other in (tuple(2 * part for part in plain), tuple(-2 * part for part in plain), (0, 0, 0)):
+                assert self.left(other, low + high) == self.HULL
+            assert self.left(tuple(part or 1 for part in plain), low) == self.HULL
+        assert self.left((1, 1, 0), 15) == self.left((0, -1, 1), -30) == self.HULL
+
+    def test_long_hulls_have_axes_in_front(self):
+        for axis in range(3):
+            for side, found in ((500_000_000, ()), (500_000_001, row_sums.AXES)):
+                high = [7 + side * (axis == k) for k in range(3)]
+                assert bounded.axes_of(Box(7, 7, 7, *high)) == found
+        assert row_sums.AXES == ((1, 0, 0), (-1, 0, 0), (0, 1, 0), (0, -1, 0), (0, 0, 1), (0, 0, -1))
+
+    def test_bounds_that_were_asked_for(self):
+        asked = [(3, 0, 4), (1, 0, 0), (0, 0, -1)]
+        long = box_at((6378137, 0, 0), (600, 10, 10))
+        for axes in (row_sums.AXES, row_sums.AXES[1::2], ((0, -1, 0),), ()):
+            ways = [*axes, *asked]
+            lines = "".join(bound_text(way, 10**15) for way in ways)
+            for text, found in ((long, asked), (WITHIN, ways)):
+                epoch = epoch_of(text + lines, BOUNDED_HEAD)
+                assert [it.direction for it in bounded.asked_of(epoch)] == found
+        assert bounded.asked_of(epoch_of(WITHIN)) == []
+        assert bounded.asked_of(epoch_of("few 1 0 4\n", BOUNDED_HEAD)) == []
 
 
 class TestShown:

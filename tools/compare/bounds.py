@@ -1,13 +1,14 @@
 """Logs with bounds for compare.py: right ones, forged ones and drawn ones.
 
-`gpscover` writes no bounds. These come of tools/bound_cases.py, over a root that is one box, or of `gpslog bounded`, behind the
-steps of a log, and many of them have something changed: whether a bound is right is for both checkers to say. For those over one box the
-definitions of bound_cases.py say it too.
+They come of tools/bound_cases.py, over a root that is one box, or of the search of `gpslog bounded`, behind the steps
+of a log, some of them behind bounds along the axes that narrow the hull. Many have something changed: whether a bound
+is right is for both checkers to say. For those over one box the definitions of bound_cases.py say it too.
 """
 
 from gpscover.bound_search import bounds_over
-from gpscover.bounded import bounds_of, directions
+from gpscover.bounded import bounds_along, directions
 from gpscover.log import Interval, blocks
+from gpscover.row_sums import AXES
 from tools.bound_cases import (GREATEST_AIM, GREATEST_END, GREATEST_MULTIPLIER, HalfSpace, Sum, Table, add_any, add_receivers,
                                bound_lines, changed_sum, is_shown, kept_hull, row_line)
 
@@ -112,8 +113,10 @@ class Behind:
         self.rows = epoch.renewals[-1].rows if epoch.renewals else epoch.rows
         self.hull, self.root, self.done = kept_hull(epoch), epoch.root, len(self.lines) - 1
         self.narrow = [self.narrower(row) for row in self.rows]
-        by_narrow = bounds_over(self.narrow, self.hull, epoch.outliers, directions(self.root, 4))
-        self.bounds, self.by_narrow = as_cases(bounds_of(epoch, 4)), as_cases(by_narrow)
+        ways = directions(self.root, 4)
+        by_narrow = bounds_over(self.narrow, self.hull, epoch.outliers, ways)
+        self.bounds, self.by_narrow = as_cases(bounds_along(epoch, ways)), as_cases(by_narrow)
+        self.behind_axes = as_cases(bounds_along(epoch, [*AXES, *ways]))
 
     @staticmethod
     def narrower(row):
@@ -135,11 +138,19 @@ class Behind:
             names.append(f"{what} over {where}")
         return ", ".join(names) or "not renewed", lines
 
+    def chosen(self, chance):
+        """(name, bounds): up to three bounds in any order, or most of those behind bounds along the axes, in theirs."""
+        if chance.randrange(3) == 0:
+            number = len(self.behind_axes)
+            left = sorted(chance.sample(range(number), number - chance.choice((0, 0, 1, 2, 4))))
+            return "bounds behind the axes", [self.behind_axes[k] for k in left]
+        name, some = chance.choice((("its bounds", self.bounds), ("bounds by narrower rows", self.by_narrow)))
+        return name, chance.sample(some, chance.randint(1, min(3, len(some))))
+
     def log(self, chance):
         """(name, lines) of this epoch with bounds behind it."""
         renewed, lines = self.renewals(chance)
-        name, some = chance.choice((("its bounds", self.bounds), ("bounds by narrower rows", self.by_narrow)))
-        few = chance.sample(some, chance.randint(1, min(3, len(some))))
+        name, few = self.chosen(chance)
         how, few = other_bounds(chance, few, len(self.rows))
         behind = [line for half, sums in few for line in bound_lines(half, sums)]
         return f"{renewed}; {name}, {how}", [*self.lines[: self.done], *lines, self.lines[self.done], *behind]

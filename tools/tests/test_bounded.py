@@ -7,12 +7,27 @@ from made_logs import EXAMPLES, RECORDED
 
 from gpscover import bound_search, bounded, region, row_sums
 from gpscover.geodesy import whole_product
-from gpscover.log import Box, epochs
+from gpscover.log import Box, blocks, epochs
 from tools.bound_cases import Region, any_box, any_row, form, made_rows
 from tools.forged_logs import BOX, CUTS_LEAVE, DATA, put, renewal, text, with_renewals
 from tools.tests.test_forged_bounds import second
 
 LOG = DATA / "receiver.log"
+WHOLE = "edge 0 -200000000000000 200000000000000"  # holds each clock hull that a log may have
+
+
+def one_box(path, half):
+    """The lines of a log of the first epoch of another, whose root is one box of such a half side in um."""
+    lines = path.read_text().splitlines()
+    at = next(k for k, line in enumerate(lines) if line.startswith("root "))
+    middle = [round(part * 10**6) for part in region.hull_of(next(epochs(path)).boxes).centre]
+    ends = [end + sign * half for sign in (-1, 1) for end in middle]
+    return [*lines[:at], " ".join(map(str, ("root", *ends))), WHOLE, "done 0"]
+
+
+def epochs_of(lines):
+    """The epochs of a log of these lines, as they are read."""
+    return list(blocks(iter(lines)))
 
 
 class TestFound:
@@ -56,6 +71,29 @@ class TestFound:
         assert second(text(lines)).startswith("yes ")
         paved = sum(epoch.kept != [] for epoch in epochs(RECORDED / f"{name}.log"))
         assert sum(line.startswith("bound ") for line in lines) == 6 * paved
+
+    def test_a_long_hull_is_narrowed_by_bounds_along_the_axes(self, room):
+        path, ways = room / "long.log", [*row_sums.AXES]
+        for half, first in ((249 * 10**6, []), (600 * 10**6, ways)):
+            lines = one_box(LOG, half)
+            path.write_bytes(text(lines))
+            whole = list(bounded.bounded(path))
+            assert second(text(whole)) == "yes 1"
+            (found,) = epochs_of(whole)
+            asked = bounded.directions(found.root, 8)
+            assert [it.direction for it in found.bounds] == [*first, *asked]
+            assert [it.direction for it in bounded.asked_of(found)] == asked
+        # What is left of the hull is far shorter; without its axes in front the first bound behind them isn't shown.
+        hull = found.boxes[0]
+        for one in found.bounds:
+            hull = row_sums.hull_under(one, hull)
+        assert max(high - low for low, high in zip(hull.low, hull.high)) < 200 * 10**6
+        behind = [line for one in bounded.asked_of(found) for line in bounded.bound_lines(one)]
+        assert second(text(["gpscover 4", *lines[1:], *behind])) == f"no 66 BoundNotShown line {len(lines) + 1}"
+        # Over the whole hull bounds end further away, by what a form leaves out there.
+        wide = bound_search.bounds_over(found.rows, found.boxes[0], found.outliers, asked)
+        for near, far in zip(bounded.asked_of(found), wide):
+            assert 1000 < (far.most - near.most) / math.hypot(*near.direction) < 10**6  # um
 
     def test_one_box_whose_bounds_are_known(self):
         # each of the satellites on the axes has an error within 0.5 m, so x - y is at most 1 m

@@ -9,10 +9,13 @@ import pytest
 
 from made_logs import FIVE, HEAD, PAVED, RENEWED, epoch_of, written
 
-from gpscover.log import Row
-from tools import bench, certified_table, exact_extents, largest_sizes, long_day, pairs_table, renewed
+from gpscover.log import Interval, Row
+from tools import bench, bounds_measured, certified_table, exact_extents, largest_sizes, long_day, pairs_table, renewed
 from tools.made import orbits
 from tools.tests.program import ended
+
+
+HEAD_4 = HEAD.replace("gpscover 1", "gpscover 4")
 
 
 class TestExactExtents:
@@ -52,6 +55,65 @@ class TestExactExtents:
     def test_an_empty_region(self):
         row = Row("G01", ((0, 0),) * 3, (0, 0), (0, 0), (0, 0))
         assert exact_extents.exact_extents([row], 0, (1, 0, 0), ((1, 0, 0),) * 3) is None
+
+
+class TestTrueCorners:
+    """Corners of what four satellites allow, seen from a point that is 800 m away."""
+
+    PLACES = (20_000, 1_000, 0), (0, 19_000, 3_000), (-2_000, 0, 21_000), (12_000, -9_000, 12_000)  # km
+    ERROR = 100_000_000  # um
+
+    def rows(self):
+        for number, place in enumerate(self.PLACES):
+            um = [part * 10**9 for part in place]
+            far = math.isqrt(sum(part**2 for part in um))
+            yield Row(f"G0{number}", tuple(Interval(end, end) for end in um), Interval(far, far),
+                      *[Interval(-self.ERROR, self.ERROR)] * 2)
+
+    def test_they_are_where_the_ranges_meet(self):
+        centre = (700.0, -300.0, 200.0)
+        rows = list(self.rows())
+        found = list(certified_table.true_corners(rows, 4, centre))
+        assert len(found) == 16
+        for corner in found:
+            point = [a + b for a, b in zip(centre, corner)]
+            away = [math.dist(point, [part * 1000 for part in place]) for place in self.PLACES]
+            sums = [far - math.hypot(*place) * 1000 for far, place in zip(away, self.PLACES)]
+            clock = (max(sums) + min(sums)) / 2  # the errors less the clock offset are 100 m or -100 m
+            ends = sorted({round(abs(part - clock), 4) for part in sums})
+            assert ends == [100] or len({round(part, 4) for part in sums}) == 1
+        linear = [certified_table.loose_row(row, centre) for row in rows]
+        assert certified_table.moved(rows, range(4), (1, 2, 2, 1), (*centre,), 5) is None
+        flat = certified_table.meeting(linear, (1, 2, 2, 1))[:3]
+        assert 0.001 < min(math.dist(flat, corner) for corner in found) < certified_table.NEAR_M
+
+    def test_rows_that_may_be_left_out_have_more(self):
+        rows = list(self.rows())
+        longer = Interval(*(end + 2 * self.ERROR for end in rows[0].range))
+        fifth = Row("G05", rows[0].place, longer, rows[0].error, rows[0].error)
+        assert 0 < len(list(certified_table.true_corners([*rows, fifth], 5, (0.0, 0.0, 0.0)))) < 32
+        assert len(list(certified_table.true_corners([*rows, fifth], 4, (0.0, 0.0, 0.0)))) >= 32
+
+
+class TestBoundsMeasured:
+    def test_how_much_further_bounds_lie(self):
+        found = []
+        for some in ([(3, 4, 0), (0, 1, 5)], [(0, 1, 5005), (1, 1, 7), (3, 4, -10_000)]):
+            lines = (f"bound {x} {y} 0 {most} 1\nby 0{' 0' * 10}\n" for x, y, most in some)
+            found.append(epoch_of(PAVED + "".join(lines), HEAD_4))
+        assert bounds_measured.further(*found) == [5, -2]
+        assert bounds_measured.ends_of([5, -2]) == "1.5, 5 mm"
+        assert bounds_measured.ends_of([]) == "none"
+
+    def test_settings(self, tmp_path):
+        text = "[search]\nhalf = 1\n[bounds]\nionosphere = [0, 1]\ntroposphere = [2, 3]\n"
+        (tmp_path / "a_single.toml").write_text(text)
+        made = bounds_measured.settings_of(tmp_path, "a", "single", {"half": 7})
+        assert sorted(made.splitlines()[:4]) == ["[search]", "directions = 8", "half = 7", "pairs = true"]
+        above = "ionosphere = [0, 0]\nvertical = [0, 10000]\ntroposphere = [0, 0]\nzenith = [1600, 3000]\n"
+        assert bounds_measured.mapped(made).endswith(f"[bounds]\n{above}")
+        with pytest.raises(pairs_table.Failed):
+            bounds_measured.mapped("[bounds]\n")
 
 
 class TestLongDay:

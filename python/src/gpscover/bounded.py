@@ -3,9 +3,11 @@
 usage: gpslog bounded LOG NEW [--directions 4|8|16]
 
 NEW is LOG as a log of version 4: behind the steps of each epoch that keeps a box stand bounds along so many azimuths (8),
-evenly from east, and up and down. What they are is said in docs/LOG.md. Bounds that LOG has already are left away. A
-bound is written where whole numbers show it, and `gpscover check` proves it anew; it wants `search.pairs = true` in the
-settings. Along a direction where none is found there is none, and with more than 4 outliers there are none at all.
+evenly from east, and up and down. Where the kept boxes reach over more than 500 m, six bounds along the axes stand in
+front of them: they narrow the box over which the others are shown. What they are is said in docs/LOG.md. Bounds that LOG
+has already are left away. A bound is written where whole numbers show it, and `gpscover check` proves it anew; it wants
+`search.pairs = true` in the settings. Along a direction where none is found there is none, and with more than 4 outliers
+there are none at all.
 
 Exit status: 0; 1 where a file can't be read or written, or LOG is no whole log; 2 for a wrong command line.
 """
@@ -15,16 +17,19 @@ from __future__ import annotations
 import argparse
 import math
 import os
-from collections.abc import Iterator, Sequence
+from collections.abc import Iterable, Iterator, Sequence
 
 from gpscover.bound_search import bounds_over
 from gpscover.command import Command, whole_file
 from gpscover.errors import Error
 from gpscover.geodesy import cross, whole_product
-from gpscover.log import HEADS, Bound, Box, Epoch, PathLike, Row, epochs, open_text
+from gpscover.log import HEADS, UM_PER_M, Bound, Box, Epoch, PathLike, Row, epochs, open_text
 from gpscover.region import hull_of
-from gpscover.row_sums import Whole
+from gpscover.row_sums import AXES, Whole, hull_under
 
+# A hull with a longer side, in um, is narrowed by bounds along the axes first. What a form leaves out grows with the
+# square of its box, and is some mm at this length.
+LONG = 500 * UM_PER_M
 COUNTS = (4, 8, 16)  # of azimuths
 USUAL = 8
 PARTS = 10**6  # of the length of a direction
@@ -84,18 +89,42 @@ def lies_in(box: Box, other: Box) -> bool:
 
 
 def rows_over(epoch: Epoch, hull: Box) -> list[Row]:
-    """The rows that show bounds over the hull of the kept boxes: those in use at the end where it lies in their box, and
-    else the first ones."""
+    """The rows that show bounds over a hull: those in use at the end where it lies in their box, else the first ones."""
     last = epoch.renewals[-1:]
     return last[0].rows if last and lies_in(hull, last[0].box) else epoch.rows
 
 
+def axes_of(hull: Box) -> tuple[Whole, ...]:
+    """The directions along which a hull is narrowed before any other bound is sought; none where it is short."""
+    longest = max(high - low for low, high in zip(hull.low, hull.high))
+    return AXES if longest > LONG else ()
+
+
+def bounds_along(epoch: Epoch, ways: Iterable[Whole]) -> list[Bound]:
+    """The bounds of an epoch that keeps a box along some directions, each over what those before leave of the hull."""
+    hull, found = hull_of(epoch.boxes), []
+    for way in ways:
+        for bound in bounds_over(rows_over(epoch, hull), hull, epoch.outliers, [way]):
+            found.append(bound)
+            hull = hull_under(bound, hull)
+    return found
+
+
 def bounds_of(epoch: Epoch, count: int = USUAL) -> list[Bound]:
-    """The bounds of an epoch along so many azimuths, and up and down; none where it keeps no box."""
+    """The bounds of an epoch along the axes where its hull is long, and then along so many azimuths, and up and down; none
+    where it keeps no box."""
     if not epoch.kept or epoch.root is None:
         return []
-    hull = hull_of(epoch.boxes)
-    return bounds_over(rows_over(epoch, hull), hull, epoch.outliers, directions(epoch.root, count))
+    return bounds_along(epoch, [*axes_of(hull_of(epoch.boxes)), *directions(epoch.root, count)])
+
+
+def asked_of(epoch: Epoch) -> list[Bound]:
+    """The bounds of an epoch without those along the axes that stand in front of them where its hull is long."""
+    ways = iter(axes_of(hull_of(epoch.boxes)) if epoch.kept else ())
+    first = 0
+    while first < len(epoch.bounds) and epoch.bounds[first].direction in ways:
+        first += 1
+    return epoch.bounds[first:]
 
 
 def bound_lines(bound: Bound) -> Iterator[str]:

@@ -13,7 +13,7 @@ from typing import NamedTuple
 from gpscover.geodesy import Vector, cross, dot
 from gpscover.log import Bound
 
-MOST_BOUNDS = 64  # which are looked at
+MOST_BOUNDS = 70  # which are looked at: as many as `solve` writes
 MISSED_M = 1e-6  # a corner is beyond no plane by more
 SLANT = 1e-4  # a body whose sides come together less than that in its length has no end
 LEAST_VOLUME = 1e-9  # of three unit vectors that aren't in one plane
