@@ -82,13 +82,14 @@ some_axes =
     ∷ axis (pos 0) (pos 0) (pos 1) none none up ∷ axis (pos 0) (pos 0) (negsuc 0) none none down ∷ []
 
 pub are_axes : AreAxes some_axes
+unfolding some_axes axis
 are_axes = refl
 
 -- with 64 directions they are 70
 pub axes_few : (axes list : List Direction) → AreAxes axes → length list ≤ 64
     → length (axes ++ list) ≤ most_bounds
 axes_few axes list are few =
-    omega (arith, few, length-append axes list, length-map axes (λ (d : Direction). (d.x, d.y, d.z)), ap length are)
+    omega (arith, few, length-append axes list, length-map {B = ℤ × ℤ × ℤ} axes (λ (d : Direction). (d.x, d.y, d.z)), ap length are)
 
 -- ---- what is left of a hull
 
