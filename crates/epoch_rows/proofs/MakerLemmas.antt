@@ -93,8 +93,8 @@ module _ (maker other : Maker) (goes : GoesAs maker other) (rules : Rules) where
 
   over_as : (used : GridBox) (hull : Option GridBox) (n : ℕ) (last : Option RowsOver)
       → RenewsOver maker used hull n last → RenewsOver other used hull n last
-  over_as used hull n None none = λ part active is half. none part (goes.active ∙ active) is half
-  over_as used hull n (Some new) (active, is, half, many, gives) = (sym goes.active ∙ active, is, half, many, rows_as active 0 new.part new.rows gives)
+  over_as used hull n None none = λ part active is shorter. none part (goes.active ∙ active) is shorter
+  over_as used hull n (Some new) (active, is, shorter, many, gives) = (sym goes.active ∙ active, is, shorter, many, rows_as active 0 new.part new.rows gives)
 
   last_as : (directions : Option Directions) (used : GridBox) (hull : Option GridBox) (n : ℕ) (last : Option RowsOver)
       → RenewsIf directions maker used hull n last → RenewsIf directions other used hull n last
@@ -166,7 +166,7 @@ module _ (maker : Maker) (rules : Rules) where
       → RenewsIf directions maker used hull n last → AreGiven n (renewals_in (last_events last))
   last_given None used hull n last none = rw none tt
   last_given (Some directions) used hull n None renews = tt
-  last_given (Some directions) used hull n (Some new) (active, is, half, many, gives) = (record { rows = gives; many = many }, tt)
+  last_given (Some directions) used hull n (Some new) (active, is, shorter, many, gives) = (record { rows = gives; many = many }, tt)
 
   given_behind : (n : ℕ) (first more : List Event) → AreGiven n (renewals_in first)
       → AreGiven n (renewals_in more) → AreGiven n (renewals_in (first ++ more))

@@ -52,14 +52,41 @@ const BOUNDS: [&str; 5] = [
     "bound 1 1 1 2800000 1\n",
 ];
 
+/// Rows of a box of 800 m: 301 m are left of each of four ranges, two of them from the two ends of an
+/// axis.
+const LONG_ROWS: [&str; 2] = [
+    "rules 0 0 1000000\nepoch 1 1388102400000000000000 4\n\
+sat G01 20000000000000 20000000000000 0 0 0 0 20000000000000 20000000000000 -301000000 301000000\n\
+sat G02 -20000000000000 -20000000000000 0 0 0 0 20000000000000 20000000000000 -301000000 301000000\n",
+    "sat G03 0 0 20000000000000 20000000000000 0 0 20000000000000 20000000000000 -301000000 301000000\n\
+sat G04 0 0 0 0 20000000000000 20000000000000 20000000000000 20000000000000 -301000000 301000000\n\
+root -400000000 -400000000 -400000000 400000000 400000000 400000000\n",
+];
+
+const LONG_STEPS: &str = "edge 0 -701007999 701000000\ndone 0\n";
+
+/// The first lines of their bounds, where one along x is asked for. Two rows leave x, and end it at
+/// 301 m and what their forms leave out. The last end is nearer than the first, which is along x too,
+/// as the bounds before it made the hull shorter. On the other axes the box ends before any sum does.
+const LONG_BOUNDS: [&str; 7] = [
+    "bound 1 0 0 301006322 1",
+    "bound -1 0 0 301005840 1",
+    "bound 0 1 0 400000000 1",
+    "bound 0 -1 0 400000000 1",
+    "bound 0 0 1 400000000 1",
+    "bound 0 0 -1 400000000 1",
+    "bound 1 0 0 301005431 1",
+];
+
 /// Writes the log of the rows, where pairs are asked, with bounds along these directions.
 fn write_bounded(
     alloc: Global,
+    rows: &[&str],
     along: &[Direction],
     limit: u32,
     devices: &Devices,
 ) -> Result<Held, Fail> {
-    let log = rows_in(alloc, &text_of(alloc, "gpscover 3\n", &ROWS)?)?;
+    let log = rows_in(alloc, &text_of(alloc, "gpscover 3\n", rows)?)?;
     if !log.rules.pairs {
         return Err(Fail::from("no pairs"));
     }
@@ -73,9 +100,9 @@ fn write_bounded(
 }
 
 /// The log up to its number of splits.
-fn log_before(alloc: Global) -> Result<String, AllocError> {
-    let mut text = text_of(alloc, "gpscover 4\n", &ROWS)?;
-    text.push_str(STEPS)?;
+fn log_before(alloc: Global, rows: &[&str], steps: &str) -> Result<String, AllocError> {
+    let mut text = text_of(alloc, "gpscover 4\n", rows)?;
+    text.push_str(steps)?;
     Ok(text)
 }
 
@@ -83,8 +110,8 @@ fn log_before(alloc: Global) -> Result<String, AllocError> {
 fn bounds_are_written_behind_the_splits(rt: HostRuntime) -> Result<(), Fail> {
     let alloc = rt.alloc();
     for i in 0..5 {
-        let text = both(alloc, &log_before(alloc)?, BOUNDS[i])?;
-        let held = write_bounded(alloc, &ALONG[i..i + 1], 5_000, &WHOLE)?;
+        let text = both(alloc, &log_before(alloc, &ROWS, STEPS)?, BOUNDS[i])?;
+        let held = write_bounded(alloc, &ROWS, &ALONG[i..i + 1], 5_000, &WHOLE)?;
         assert_eq!(rt; held.result, Ok(()));
         assert!(rt; log_bytes(&held).starts_with(text.as_bytes()), "at {text}");
         assert_eq!(rt;
@@ -99,12 +126,33 @@ fn bounds_are_written_behind_the_splits(rt: HostRuntime) -> Result<(), Fail> {
     Ok(())
 }
 
+#[test]
+fn bounds_along_the_axes_come_first_over_a_long_hull(rt: HostRuntime) -> Result<(), Fail> {
+    let alloc = rt.alloc();
+    let held = write_bounded(alloc, &LONG_ROWS, &ALONG[2..3], 5_000, &WHOLE)?;
+    assert_eq!(rt; held.result, Ok(()));
+    let before = log_before(alloc, &LONG_ROWS, LONG_STEPS)?;
+    assert!(rt; log_bytes(&held).starts_with(before.as_bytes()));
+    let Ok(log) = std::str::from_utf8(log_bytes(&held)) else {
+        return Err(Fail::from("no text"));
+    };
+    let mut count: usize = 0;
+    for line in log.lines().filter(|line| line.starts_with("bound ")) {
+        assert!(rt; count < 7);
+        assert_eq!(rt; line, LONG_BOUNDS[count]);
+        count += 1;
+    }
+    assert_eq!(rt; count, 7);
+    assert_eq!(rt; found(alloc, log)?, Ok(Verdict::Yes { boxes: 1 }));
+    Ok(())
+}
+
 // The lines up to the number of splits have 535 bytes, and the next one has 23.
 #[test]
 fn a_log_may_be_full_among_its_bounds(rt: HostRuntime) -> Result<(), Fail> {
     let alloc = rt.alloc();
     let full = Err(WriteFault::Full);
-    let whole = write_bounded(alloc, &ALONG, 5_000, &WHOLE)?;
+    let whole = write_bounded(alloc, &ROWS, &ALONG, 5_000, &WHOLE)?;
     let table = [
         (557, WHOLE, full, 535),
         (558, WHOLE, full, 558),
@@ -112,7 +160,7 @@ fn a_log_may_be_full_among_its_bounds(rt: HostRuntime) -> Result<(), Fail> {
         (5_000, failing_log(2), Err(WriteFault::Log), 0),
     ];
     for (limit, devices, result, bytes) in table {
-        let held = write_bounded(alloc, &ALONG, limit, &devices)?;
+        let held = write_bounded(alloc, &ROWS, &ALONG, limit, &devices)?;
         assert_eq!(rt; held.result, result);
         assert_eq!(rt; log_bytes(&held).len(), bytes);
         assert!(rt; log_bytes(&whole).starts_with(log_bytes(&held)));

@@ -51,9 +51,9 @@ pub few_behind : (directions : Option Directions) (maker : Maker) (q : ℕ) (fir
 few_behind None maker q first events last bounds few none are =
     omega (arith, ap (λ (o : Option RowsOver). lines_of_all (last_events o)) none, ap (λ (l : List BoundValue). length (flat_map bound_lines l)) are)
 few_behind (Some d) maker q first events None bounds few renews are =
-    omega (arith, bound_count bounds are.fit, along_few are.list bounds are.along, are.few)
-few_behind (Some d) maker q first events (Some new) bounds few (active, is, half, same, gives) are =
-    omega (arith, same, few, bound_count bounds are.fit, along_few are.list bounds are.along, are.few)
+    omega (arith, bound_count bounds are.fit, along_few (are.axes ++ are.list) bounds are.along, are.few)
+few_behind (Some d) maker q first events (Some new) bounds few (active, is, shorter, same, gives) are =
+    omega (arith, same, few, bound_count bounds are.fit, along_few (are.axes ++ are.list) bounds are.along, are.few)
 
 no_rows : (o : Option RowsOver) (new : RowsOver) → o ≡ None → o ≡ Some new → ⊥
 no_rows o new none some = cc
@@ -68,6 +68,6 @@ pub last_is : (directions : Option Directions) (maker : Maker) (first : RowsOver
     × (length new.rows ≡ length first.rows) × GivesFrom maker 0 new.part new.rows
 last_is None maker first events last none new some = absurd (no_rows last new none some)
 last_is (Some d) maker first events None renews new some = absurd cc
-last_is (Some d) maker first events (Some last) (active, is, half, same, gives) new some =
+last_is (Some d) maker first events (Some last) (active, is, shorter, same, gives) new some =
     subst (λ (x : RowsOver). (maker.active ≡ true) × (kept_hull (pieces first.part (steps_in events)) ≡ Some x.part)
     × (length x.rows ≡ length first.rows) × GivesFrom maker 0 x.part x.rows) (some_rows last new some) (active, is, same, gives)

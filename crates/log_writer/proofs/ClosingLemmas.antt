@@ -1,18 +1,15 @@
 -- What stands behind the events of a whole run: rows that are renewed once more, and bounds.
 use Rattle.std.proofs.Common.{◌≡◌, ℕ, suc, List, [], ◌∷◌, ◌++◌, append-nil, append_assoc, inl, inr, Option, None, Some, refl, sym, ap, subst, ◌∙◌}
 use Rattle.std.specs.Prelude.{true}
-use Rattle.std.specs.List.{flat_map, AllByRecursion}
+use Rattle.std.specs.List.{flat_map}
 use Rattle.sat_model.specs.declared.rules.Rules.{Rules}
 use Rattle.sat_model.specs.declared.rows.Row.{Row}
 use Rattle.grid_model.specs.Boxes.{GridBox, IsInside}
-use Rattle.grid_model.proofs.BoxLemmas.{lies_refl}
-use Rattle.sat_model.specs.Bounds.{BoundValue}
 use Rattle.sat_model.specs.Events.{Event, Made, Renewed, RowsOver, steps_in}
 use Rattle.sat_model.specs.Fold.{Subpaving, boxes_after, taken_by, live_box, pieces, IsLive, NoneLive}
-use Rattle.sat_model.specs.HalfSpaces.{ShowHalfSpace}
 use Rattle.sat_model.specs.KeptHulls.{kept_hull}
 use Rattle.sat_model.specs.Renewals.{AnyLine, IsOfPlace, LinesPass}
-use Rattle.sat_model.specs.ShownBounds.{rows_behind, AreOver, AreBoundsShown}
+use Rattle.sat_model.specs.ShownBounds.{rows_behind}
 use Rattle.sat_model.specs.Stages.{Stage, after}
 use Rattle.sat_model.specs.Verdicts.{EventsPass}
 use Rattle.sat_model.proofs.EventLemmas.{steps_behind}
@@ -20,7 +17,7 @@ use Rattle.log_lines.specs.declared.line.LogLine.TheVariants as line
 use Rattle.epoch_report.specs.Reports.{piece_text}
 use Rattle.paving.specs.Renewing.{Maker, GivesFrom}
 use Rattle.paving.proofs.TurnLemmas.{Suits}
-use Rattle.log_writer.specs.InUse.{used_last, AreShowing}
+use Rattle.log_writer.specs.InUse.{used_last}
 use Rattle.log_writer.specs.LastRenewals.{last_events}
 use Rattle.log_writer.specs.Pieces.{Piece, with_report, row_pieces, event_pieces}
 use Rattle.log_writer.specs.Wrote.{last_pieces}
@@ -102,61 +99,3 @@ module _ (maker : Maker) (first : RowsOver) (rules : Rules) (done : ℕ) (suits 
       → EventsPass AnyLine first rules done j stage (events ++ last_events last)
   last_passes j stage events None is p = subst (λ (l : List Event). EventsPass AnyLine first rules done j stage l) (sym (append-nil events)) p
   last_passes j stage events (Some new) is p = new_passes j stage events new (is new refl) p
-
--- ---- the rows that bounds are shown by
-
--- the rows over a hull, as they are chosen
-pub record AreRowsOver (hull : GridBox) (first : RowsOver) (events : List Event) (rows : List Row) : Type 0 where
-  pub over : RowsOver
-  pub are_over : AreOver hull first events over
-  pub rows_are : over.rows ≡ rows
-
-over_last : (hull : GridBox) (first : RowsOver) (events : List Event) (used : RowsOver) (rows : List Row)
-    → rows_behind first events ≡ used → IsInside hull used.part → rows ≡ used.rows
-    → AreRowsOver hull first events rows
-over_last hull first events used rows is inside same = record {
-  over = rows_behind first events;
-  are_over = inl (subst (λ (u : RowsOver). IsInside hull u.part) (sym is) inside, refl);
-  rows_are = ap (λ (u : RowsOver). u.rows) is ∙ sym same;
-}
-
-over_first : (hull : GridBox) (first : RowsOver) (events : List Event) (used : RowsOver) (rows : List Row)
-    → rows_behind first events ≡ used → (IsInside hull used.part → ⊥) → rows ≡ first.rows
-    → AreRowsOver hull first events rows
-over_first hull first events used rows is not same = record {
-  over = first;
-  are_over = inr (λ inside. not (subst (λ (u : RowsOver). IsInside hull u.part) is inside), refl);
-  rows_are = sym same;
-}
-
-pub rows_shown : (hull : GridBox) (first : RowsOver) (events : List Event) (last before : Option RowsOver) (rows : List Row)
-    → IsInside hull first.part → used_last first before ≡ rows_behind first events
-    → ((new : RowsOver) → last ≡ Some new → hull ≡ new.part)
-    → AreShowing hull last before first.rows rows
-    → AreRowsOver hull first (events ++ last_events last) rows
-rows_shown hull first events (Some new) before rows in_root used is same =
-    over_last hull first (events ++ Renewed new ∷ []) new rows (last_rows first events (Some new))
-    (subst (λ (part : GridBox). IsInside hull part) (is new refl) (lies_refl hull)) same
-rows_shown hull first events None (Some old) rows in_root used is (inl (inside, same)) =
-    over_last hull first (events ++ []) old rows (last_rows first events None ∙ sym used) inside same
-rows_shown hull first events None (Some old) rows in_root used is (inr (not, same)) =
-    over_first hull first (events ++ []) old rows (last_rows first events None ∙ sym used) not same
-rows_shown hull first events None None rows in_root used is same =
-    over_last hull first (events ++ []) first rows (last_rows first events None ∙ sym used) in_root same
-
-pub all_shown : (q : ℕ) (first : RowsOver) (events : List Event) (hull : GridBox) (rows : List Row) (bounds : List BoundValue)
-    → kept_hull (pieces first.part (steps_in events)) ≡ Some hull
-    → AreRowsOver hull first events rows
-    → AllByRecursion (λ (b : BoundValue). ShowHalfSpace rows hull q b.half b.sums) bounds
-    → AreBoundsShown q first events bounds
-all_shown q first events hull rows [] is over shown = tt
-all_shown q first events hull rows (b ∷ bounds) is over shown = (
-  record {
-    hull = hull;
-    is_hull = is;
-    over = over.over;
-    are_over = over.are_over;
-    shows = subst (λ (l : List Row). ShowHalfSpace l hull q b.half b.sums) (sym over.rows_are) shown.0;
-  },
-  all_shown q first events hull rows bounds is over shown.1,
-)

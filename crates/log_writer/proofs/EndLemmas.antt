@@ -6,13 +6,11 @@ use Rattle.bound_directions.specs.declared.direction.Direction.{Direction}
 use Rattle.bound_directions.specs.declared.directions.Directions.{Directions}
 use Rattle.epoch_report.specs.declared.counts.Counts4.{Counts4}
 use Rattle.epoch_report.specs.ReportLines.{total_text_of}
-use Rattle.grid_model.specs.Boxes.{GridBox, IsInside}
-use Rattle.sat_model.specs.declared.rows.Row.{Row}
+use Rattle.grid_model.specs.Boxes.{GridBox}
 use Rattle.sat_model.specs.Events.{Event, RowsOver, steps_in}
 use Rattle.sat_model.specs.Fold.{pieces}
 use Rattle.sat_model.specs.KeptHulls.{kept_hull}
-use Rattle.sat_model.specs.Pairs.{form_of}
-use Rattle.sat_model.specs.ShownBounds.{rows_behind}
+use Rattle.sat_model.specs.ShownBounds.{rows_behind, AreShownOver}
 use Rattle.paving.specs.Renewing.{Maker}
 use Rattle.log_lines.specs.declared.line.LogLine.TheVariants as line
 use Rattle.log_lines.specs.Rows.{RowFits}
@@ -22,29 +20,26 @@ use Rattle.log_writer.specs.declared.fault.WriteFault.{WriteFault}
 use Rattle.log_writer.specs.declared.outcome.Outcome.{Outcome}
 use Rattle.log_writer.specs.declared.wanted.Wanted.{Wanted}
 use Rattle.log_writer.specs.Bounding.{AreBoundsFor}
-use Rattle.log_writer.specs.Found.{WroteFound}
-use Rattle.log_writer.specs.InUse.{rows_option, used_last, AreShowing}
+use Rattle.log_writer.specs.Found.{WroteBounds}
+use Rattle.log_writer.specs.InUse.{rows_option, used_last}
 use Rattle.log_writer.specs.LastRenewals.{RenewsOver, RenewsLast, last_events}
 use Rattle.log_writer.specs.Pieces.{Piece, alone, with_report}
 use Rattle.log_writer.specs.Writing.{Seen, Went, Ended, Written}
 use Rattle.log_writer.specs.Wrote.{IsBehind, last_pieces, WroteClosing}
-use Rattle.log_writer.proofs.AlongLemmas.{along_none}
-use Rattle.log_writer.proofs.ClosingLemmas.{last_hull, rows_shown, all_shown}
+use Rattle.log_writer.proofs.AlongLemmas.{along_none, some_axes, are_axes, axes_few}
+use Rattle.log_writer.proofs.ClosingLemmas.{last_hull, last_rows}
 use Rattle.log_writer.proofs.StepSizes.{GivesFit, given_fit}
 use Rattle.log_writer.proofs.WritingLemmas.{went_twice, ended_before, written_behind}
 
 one_new : (x y : RowsOver) → Some x ≡ Some y → x ≡ y
 one_new x y e = cc
 
-one_hull : (x y : GridBox) (o : Option GridBox) → o ≡ Some x → o ≡ Some y → x ≡ y
-one_hull x y o e f = cc
-
 -- the rows that are renewed once more fit in lines
 pub new_fits : (maker : Maker) (used : GridBox) (hull : Option GridBox) (n : ℕ) (last : Option RowsOver)
     → GivesFit maker → RenewsOver maker used hull n last
     → (new : RowsOver) → last ≡ Some new → AllByRecursion RowFits new.rows
 new_fits maker used hull n None fit renews new some = absurd cc
-new_fits maker used hull n (Some x) fit (active, is, half, same, gives) new some =
+new_fits maker used hull n (Some x) fit (active, is, shorter, same, gives) new some =
     subst (λ (y : RowsOver). AllByRecursion RowFits y.rows) (one_new x new some) (given_fit maker (fit active) 0 x.part x.rows gives)
 
 abbrev pub done_piece : Counts4 → Piece
@@ -72,7 +67,16 @@ module _ (wanted : Wanted) (d : Directions) (asks : wanted.directions ≡ Some d
   no_bounds : AreBoundsFor wanted.directions wanted.rules.outliers first (events ++ last_events last) []
   no_bounds =
       subst (λ (o : Option Directions). AreBoundsFor o wanted.rules.outliers first (events ++ last_events last) []) (sym asks)
-      (record { list = list; are_they = are; few = few; along = along_none list; fit = tt; shown = tt })
+      (record {
+        list = list;
+        are_they = are;
+        axes = some_axes;
+        are_axes = are_axes;
+        few = axes_few some_axes list are_axes few;
+        along = along_none (some_axes ++ list);
+        fit = tt;
+        shown = tt;
+      })
 
   -- the last renewal broke
   pub closing_last : {T : Type 0} (a c : Seen) (fault : WriteFault)
@@ -99,41 +103,37 @@ module _ (wanted : Wanted) (d : Directions) (asks : wanted.directions ≡ Some d
   }
 
   -- the bounds were written, or broke off
-  module _ (hull : GridBox) (kept : box_option done.kept ≡ Some hull) (in_root : IsInside hull first.part) (rows : List Row) (showing : AreShowing hull last (rows_option done.renewed) first.rows rows) where
+  module _ (hull : GridBox) (kept : box_option done.kept ≡ Some hull) (used : RowsOver) (in_use : used ≡ used_last (used_last first (rows_option done.renewed)) last) where
     is_hull : kept_hull (pieces first.part (steps_in (events ++ last_events last))) ≡ Some hull
     is_hull = last_hull first.part events last ∙ sym behind.kept ∙ kept
 
-    same_hull : (new : RowsOver) → last ≡ Some new → hull ≡ new.part
-    same_hull new some = hull_in last new renews some
-      where
-        hull_in : (o : Option RowsOver) (new : RowsOver)
-            → RenewsOver maker (used_last first (rows_option done.renewed)).part (box_option done.kept) (length first.rows) o
-            → o ≡ Some new → hull ≡ new.part
-        hull_in None new renewing some = absurd cc
-        hull_in (Some x) new (active, is, half, same, gives) some =
-            one_hull hull x.part (box_option done.kept) kept is ∙ ap (λ (y : RowsOver). y.part) (one_new x new some)
+    are_used : rows_behind first (events ++ last_events last) ≡ used
+    are_used =
+        last_rows first events last ∙ ap (λ (u : RowsOver). used_last u last) (sym behind.in_use) ∙ sym in_use
 
     pub closing_bounds : {T : Type 0} (a b c e : Seen) (r : Result T WriteFault)
         → Went a (last_pieces last) b → Went b (done_piece done.counts ∷ []) c
-        → WroteFound list (map (form_of hull) rows) hull wanted.rules.outliers c r e
+        → WroteBounds first.rows used wanted.rules.outliers list hull c r e
         → WroteClosing wanted maker first events done.counts a r e
-    closing_bounds a b c e r went also found =
-        let over = rows_shown hull first events last (rows_option done.renewed) rows in_root behind.in_use same_hull showing in
-        let tail : List Piece = map alone (flat_map bound_lines found.bounds) in
+    closing_bounds a b c e r went also w =
+        let tail : List Piece = map alone (flat_map bound_lines w.wrote.bounds) in
         record {
           last = last;
           renews = its_renewal;
-          bounds = found.bounds;
-          bounded = subst (λ (o : Option Directions). AreBoundsFor o wanted.rules.outliers first (events ++ last_events last) found.bounds) (sym asks)
+          bounds = w.wrote.bounds;
+          bounded = subst (λ (o : Option Directions). AreBoundsFor o wanted.rules.outliers first (events ++ last_events last) w.wrote.bounds) (sym asks)
               (record {
                 list = list;
                 are_they = are;
-                few = few;
-                along = found.found.along;
-                fit = found.found.fit;
-                shown = all_shown wanted.rules.outliers first (events ++ last_events last) hull rows found.bounds is_hull over found.found.shown;
+                axes = w.axes;
+                are_axes = w.are_axes;
+                few = axes_few w.axes list w.are_axes few;
+                along = w.wrote.found.along;
+                fit = w.wrote.found.fit;
+                shown = subst (λ (o : Option GridBox). AreShownOver wanted.rules.outliers first (events ++ last_events last) o w.wrote.bounds) (sym is_hull)
+                    (w.wrote.found.shown first.part (events ++ last_events last) are_used);
               });
           written = subst (λ (ps : List Piece). Written a ps r e) (append_assoc (last_pieces last) (done_piece done.counts ∷ []) tail)
               (written_behind a c e (last_pieces last ++ done_piece done.counts ∷ []) tail r
-              (went_twice a b c (last_pieces last) (done_piece done.counts ∷ []) went also) found.written);
+              (went_twice a b c (last_pieces last) (done_piece done.counts ∷ []) went also) w.wrote.written);
         }

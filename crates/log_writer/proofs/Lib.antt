@@ -1,3 +1,4 @@
+pub mod BoxLemmas
 pub mod ClockSizes
 pub mod GridSizes
 pub mod StepSizes

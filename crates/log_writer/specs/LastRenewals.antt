@@ -1,8 +1,7 @@
 -- One more renewal behind the last step of an epoch whose bounds are asked for: over the hull of
 -- the boxes that are kept, since bounds are shown over that hull, and rows are the narrower the
 -- smaller their box is.
-use Rattle.std.specs.Prelude.{◌≡◌, ℕ, ◌*◌, ◌<◌, ◌≤◌, true, List, [], ◌∷◌, length, Option, None}
-use Rattle.std.specs.Prelude.{Some}
+use Rattle.std.specs.Prelude.{◌≡◌, ℕ, ◌<◌, true, List, [], ◌∷◌, length, Option, None, Some}
 use Rattle.bound_directions.specs.declared.directions.Directions.{Directions}
 use Rattle.grid_model.specs.Boxes.{GridBox}
 use Rattle.grid_model.specs.Lengths.{longest_length}
@@ -12,18 +11,17 @@ use Rattle.sat_model.specs.Fold.{pieces}
 use Rattle.sat_model.specs.KeptHulls.{kept_hull}
 use Rattle.sat_model.specs.ShownBounds.{rows_behind}
 
--- the hull is at most half as long as the box of the rows in use
-pub record IsHalf (used hull : GridBox) : Type 0 where
-  pub positive : 0 < longest_length used
-  pub half : 2 * longest_length hull ≤ longest_length used
+-- the hull is shorter than the box of the rows in use
+abbrev pub IsShorter : (used hull : GridBox) → Type 0
+IsShorter used hull = longest_length hull < longest_length used
 
 -- So many rows are renewed over the hull, where there is one, the maker is active and the hull is
--- at most half as long as the box of the rows in use, and else none.
+-- shorter than the box of the rows in use, and else none.
 abbrev pub RenewsOver : Maker → GridBox → Option GridBox → ℕ → Option RowsOver → Type 0
 RenewsOver maker used hull n None =
-    (part : GridBox) → maker.active ≡ true → hull ≡ Some part → IsHalf used part → ⊥
+    (part : GridBox) → maker.active ≡ true → hull ≡ Some part → IsShorter used part → ⊥
 RenewsOver maker used hull n (Some new) =
-    (maker.active ≡ true) × (hull ≡ Some new.part) × IsHalf used new.part
+    (maker.active ≡ true) × (hull ≡ Some new.part) × IsShorter used new.part
     × (length new.rows ≡ n) × GivesFrom maker 0 new.part new.rows
 
 -- the same where bounds are asked for, and else none are renewed

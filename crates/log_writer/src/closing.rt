@@ -10,7 +10,7 @@ ghost use Rattle.log_lines.specs.Rows.{RowFits};
 ghost use Rattle.epoch_report.specs.ReportLines.{total_text_of};
 ghost use Rattle.subpaving.specs.LiveValues.{box_option};
 ghost use Rattle.sat_model.specs.declared.rows.Row.{Row};
-ghost use Rattle.log_writer.specs.InUse.{rows_option, used_last, AreShowing};
+ghost use Rattle.log_writer.specs.InUse.{rows_value, rows_option, used_last};
 ghost use Rattle.log_writer.specs.Pieces.{with_report};
 ghost use Rattle.log_writer.specs.Writing.{Written, Trusts};
 ghost use Rattle.log_writer.specs.Wrote.{IsBehind, last_pieces, WroteClosing};
@@ -28,7 +28,6 @@ use grid_model::Box3;
 use log_lines::done_line;
 use paving::Renewals;
 use sat_model::Row;
-use subpaving::lies_in;
 
 /// The first rows of an epoch, its root, and what its log is made by.
 #[derive(Clone, Copy)]
@@ -63,31 +62,19 @@ fn put_last<P: Pen>(pen: &mut P, last: &Option<NewRows>) -> Result<(), WriteFaul
     }
 }
 
-/// The rows by which bounds are shown over the hull of the kept boxes: those that were renewed last,
-/// for that hull or, before it, for a box in which it lies, and else the first ones.
-fn showing_rows<'a>(
-    hull: &Box3,
-    last: &'a Option<NewRows>,
-    before: &'a Option<NewRows>,
-    first: &'a [Row],
-) -> &'a [Row]
-    requires { length first.now ≤ 64 }
-    ensures are { AreShowing (grid_box hull.now) (rows_option last.now) (rows_option before.now)
-        first.now result.now }
-    ensures few { length result.now ≤ 64 }
+/// The rows in use at the end: those that were renewed last, or else before, or the first ones.
+fn rows_at_end(search: &Search<'_>, before: &Option<NewRows>, last: &Option<NewRows>) -> NewRows
+    requires { length search.now.rows.now ≤ 64 }
+    ensures { rows_value result
+        ≡ used_last (used_last (rows_over (grid_box search.now.root.now) search.now.rows.now)
+        (rows_option before.now)) (rows_option last.now) }
 {
     if let Some(new) = last {
-        return new.as_slice();
+        return *new;
     }
     match before {
-        Some(used) => {
-            if lies_in(hull, &used.part) {
-                used.as_slice()
-            } else {
-                first
-            }
-        }
-        None => first,
+        Some(used) => *used,
+        None => NewRows::copied(search.root, search.rows),
     }
 }
 
@@ -137,6 +124,7 @@ pub(crate) fn put_closing<P: Pen, M: Renewals>(
     let Some(hull) = done.kept else {
         return Ok(());
     };
-    let rows = showing_rows(&hull, &last, &done.renewed, search.rows);
-    put_bounds(pen, rows, &hull, search.wanted.rules.outliers, along)
+    let at_end = rows_at_end(search, &done.renewed, &last);
+    let outliers = search.wanted.rules.outliers;
+    put_bounds(pen, search.rows, &at_end, &hull, outliers, along)
 }

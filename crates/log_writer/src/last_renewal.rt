@@ -5,23 +5,20 @@ ghost use Rattle.grid_model.specs.Boxes.{GridBox, grid_box, IsInside};
 ghost use Rattle.paving.specs.Renewing.{GivesFrom};
 ghost use Rattle.subpaving.specs.LiveValues.{box_option};
 ghost use Rattle.log_writer.specs.InUse.{rows_value, rows_option};
-ghost use Rattle.log_writer.specs.LastRenewals.{IsHalf, RenewsOver};
+ghost use Rattle.log_writer.specs.LastRenewals.{IsShorter, RenewsOver};
 
 use crate::in_use::{NewRows, no_row};
 use grid_model::Box3;
 use paving::Renewals;
 use sat_model::Row;
 
-/// Whether the hull is at most half as long as the box of the rows in use.
-fn is_half(used: &Box3, hull: &Box3) -> bool
-    ensures { IsTrue result ↔ IsHalf (grid_box used.now) (grid_box hull.now) }
+/// Whether the hull is shorter than the box of the rows in use.
+fn is_shorter(used: &Box3, hull: &Box3) -> bool
+    ensures { IsTrue result ↔ IsShorter (grid_box used.now) (grid_box hull.now) }
 {
     let (_, long) = used.longest_axis();
     let (_, left) = hull.longest_axis();
-    if long == 0 {
-        return false;
-    }
-    2 * left <= long
+    left < long
 }
 
 /// The row of a satellite that there is.
@@ -59,7 +56,7 @@ fn rows_anew<M: Renewals>(maker: &M, count: usize, part: &Box3) -> NewRows
 }
 
 /// So many rows anew for the hull of the kept boxes, where there is one, the maker is active and the
-/// hull is at most half as long as the box of the rows in use.
+/// hull is shorter than the box of the rows in use.
 pub(crate) fn last_renewal<M: Renewals>(
     maker: &M,
     used: &Box3,
@@ -78,7 +75,7 @@ pub(crate) fn last_renewal<M: Renewals>(
     }
     match hull {
         Some(part) => {
-            if is_half(used, &part) {
+            if is_shorter(used, &part) {
                 Some(rows_anew(maker, count, &part))
             } else {
                 None

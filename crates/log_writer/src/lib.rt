@@ -15,6 +15,7 @@ mod kept;
 mod known_rows;
 mod last_renewal;
 mod laws;
+mod left;
 mod outcome;
 mod pen;
 mod steps;

@@ -10,19 +10,21 @@ use Rattle.sat_model.specs.Fitting.{IsPossible, AllBut}
 use Rattle.sat_model.specs.Fold.{pieces}
 use Rattle.sat_model.specs.HalfSpaces.{IsInHalfSpace, FormsShow, ShowHalfSpace}
 use Rattle.sat_model.specs.KeptHulls.{kept_hull}
-use Rattle.sat_model.specs.Pairs.{FormValue, form_of}
+use Rattle.sat_model.specs.MovedFaces.{box_under, hull_under}
+use Rattle.sat_model.specs.Pairs.{FormValue}
 use Rattle.sat_model.specs.Renewals.{AnyLine}
-use Rattle.sat_model.specs.ShownBounds.{rows_behind, AreOver, IsBoundShown, AreBoundsShown, IsFirstUnshown}
+use Rattle.sat_model.specs.ShownBounds.{rows_behind, AreOver, IsBoundShown, AreShownOver, IsFirstUnshownOver, AreBoundsShown, IsFirstUnshown}
 use Rattle.sat_model.specs.Stages.{Stage}
 use Rattle.sat_model.specs.Verdicts.{EventsPass}
 use Rattle.sat_model.specs.declared.rules.Rules.{Rules}
 use Rattle.sat_model.proofs.CoverLemmas.{inside_holds, PossibleInEach, rows_fit}
-use Rattle.sat_model.proofs.EpochLemmas.{hull_held}
+use Rattle.sat_model.proofs.EpochLemmas.{HullHolds, hull_held}
+use Rattle.sat_model.proofs.FaceLemmas.{held_under}
 use Rattle.sat_model.proofs.LawLemmas.{all_in_half_space}
 use Rattle.sat_model.proofs.VerdictLemmas.{same_box}
 use Rattle.paving_log_check.specs.Answers.{ShowsNoSpans}
 use Rattle.paving_log_check.specs.FileCover.{AreFitBounds}
-use Rattle.paving_log_check.specs.FormBounds.{FormsShowAll, IsFirstHidden}
+use Rattle.paving_log_check.specs.FormBounds.{AreFormsOver}
 use Rattle.paving_log_check.specs.declared.verdict.Fault.{Fault}
 
 -- ---- what fits
@@ -43,29 +45,42 @@ over_possible q p b hull first events over (inl last) each inside held =
 over_possible q p b hull first events over (inr front) each inside held = rw front.1 (each.0 inside)
 
 module _ (q : ℕ) (first : RowsOver) (events : List Event) (FitsAt : Pos → ℤ → Type 0)
-    (covers : (p : Pos) (b : ℤ) → box_holds first.part p ≡ true → FitsAt p b → SomeKeeps p b (pieces first.part (steps_in events)))
     (each : (p : Pos) (b : ℤ) → FitsAt p b → PossibleInEach q p b (first ∷ renewals_in events)) where
-  fit_bound : (bound : BoundValue) → IsBoundShown q first events bound
-      → (p : Pos) (b : ℤ) → box_holds first.part p ≡ true → FitsAt p b → IsInHalfSpace bound.half p
-  fit_bound bound shown p b inside fit =
-      let held = hull_held (pieces first.part (steps_in events)) shown.hull p b shown.is_hull (covers p b inside fit) in
-      all_in_half_space bound.half shown.over.rows shown.hull q bound.sums shown.shows p b held
-      (over_possible q p b shown.hull first events shown.over shown.are_over (each p b fit) inside held)
+  -- what fits in the box of the first rows lies in a hull
+  abbrev Holds : Option GridBox → Type 0
+  Holds hull = (p : Pos) (b : ℤ) → box_holds first.part p ≡ true → FitsAt p b → HullHolds hull p
 
-  pub fit_bounds : (bounds : List BoundValue) → AreBoundsShown q first events bounds
+  fit_bound : (hull : Option GridBox) → Holds hull → (bound : BoundValue) → IsBoundShown q first events hull bound
+      → (p : Pos) (b : ℤ) → box_holds first.part p ≡ true → FitsAt p b → IsInHalfSpace bound.half p
+  fit_bound hull holds bound shown p b inside fit =
+      let held = subst (λ (o : Option GridBox). HullHolds o p) shown.is_hull (holds p b inside fit) in
+      all_in_half_space bound.half shown.over.rows shown.part q bound.sums shown.shows p b held
+      (over_possible q p b shown.part first events shown.over shown.are_over (each p b fit) inside held)
+
+  fit_over : (hull : Option GridBox) → Holds hull → (bounds : List BoundValue) → AreShownOver q first events hull bounds
       → AreFitBounds FitsAt first.part bounds
-  fit_bounds [] shown = tt
-  fit_bounds (bound ∷ more) shown = (fit_bound bound shown.0, fit_bounds more shown.1)
+  fit_over hull holds [] shown = tt
+  fit_over hull holds (bound ∷ more) shown =
+      let within = fit_bound hull holds bound shown.0 in
+      (within, fit_over (hull_under bound.half hull)
+      (λ p b inside fit. held_under bound.half hull p (holds p b inside fit) (within p b inside fit)) more shown.1)
+
+  pub fit_bounds : ((p : Pos) (b : ℤ) → box_holds first.part p ≡ true → FitsAt p b → SomeKeeps p b (pieces first.part (steps_in events)))
+      → (bounds : List BoundValue) → AreBoundsShown q first events bounds → AreFitBounds FitsAt first.part bounds
+  fit_bounds covers bounds shown = fit_over (kept_hull (pieces first.part (steps_in events)))
+      (λ p b inside fit. hull_held (pieces first.part (steps_in events)) p b (covers p b inside fit)) bounds shown
 
 -- ---- the rows by which they are shown
 
--- there are no more than first ones
-pub over_few : (rules : Rules) (done : ℕ) (stage : Stage) (hull : GridBox) (first : RowsOver) (events : List Event) (over : RowsOver)
-    → EventsPass AnyLine first rules done 0 stage events → AreOver hull first events over
-    → length over.rows ≤ length first.rows
-over_few rules done stage hull first events over passes (inl last) =
-    rw last.1 (rows_fit AnyLine first rules done 0 stage events first passes (omega arith))
-over_few rules done stage hull first events over passes (inr front) = rw front.1 (omega arith)
+-- those in use at the end are no more than the first ones
+pub lasts_few : (rules : Rules) (done : ℕ) (stage : Stage) (first : RowsOver) (events : List Event)
+    → EventsPass AnyLine first rules done 0 stage events → length (rows_behind first events).rows ≤ length first.rows
+lasts_few rules done stage first events passes = rows_fit AnyLine first rules done 0 stage events first passes (omega arith)
+
+pub few_over : (hull : GridBox) (first : RowsOver) (events : List Event) (over : RowsOver) → AreOver hull first events over
+    → length first.rows ≤ 64 → length (rows_behind first events).rows ≤ 64 → length over.rows ≤ 64
+few_over hull first events over (inl last) few lasts = rw last.1 lasts
+few_over hull first events over (inr front) few lasts = rw front.1 few
 
 -- ---- by forms over the hull
 
@@ -76,45 +91,25 @@ same_over hull first events a b (inl f) (inr g) = absurd (g.0 f.0)
 same_over hull first events a b (inr f) (inl g) = absurd (f.0 g.0)
 same_over hull first events a b (inr f) (inr g) = f.1 ∙ sym g.1
 
-module _ (q : ℕ) (first : RowsOver) (events : List Event) (hull : GridBox)
-    (is_hull : kept_hull (pieces first.part (steps_in events)) ≡ Some hull)
-    (over : RowsOver) (are_over : AreOver hull first events over)
-    (forms : List FormValue) (formed : forms ≡ map (form_of hull) over.rows) where
-  shown_by : (bound : BoundValue) → FormsShow forms hull q bound.half bound.sums → IsBoundShown q first events bound
+module _ (q : ℕ) (first : RowsOver) (events : List Event) (hull : GridBox) (forms : List FormValue)
+    (are : AreFormsOver first events hull forms) where
+  pub shown_by : (bound : BoundValue) → FormsShow forms hull q bound.half bound.sums → IsBoundShown q first events (Some hull) bound
   shown_by bound h = record {
-    hull = hull;
-    is_hull = is_hull;
-    over = over;
-    are_over = are_over;
-    shows = subst (λ (fs : List FormValue). FormsShow fs hull q bound.half bound.sums) formed h;
+    part = hull;
+    is_hull = refl;
+    over = are.over;
+    are_over = are.are_over;
+    shows = subst (λ (fs : List FormValue). FormsShow fs hull q bound.half bound.sums) are.formed h;
   }
 
-  shows : (bound : BoundValue) → IsBoundShown q first events bound → FormsShow forms hull q bound.half bound.sums
+  pub shows : (bound : BoundValue) → IsBoundShown q first events (Some hull) bound → FormsShow forms hull q bound.half bound.sums
   shows bound s =
-      let same : s.hull ≡ hull = same_box (kept_hull (pieces first.part (steps_in events))) s.hull hull s.is_hull is_hull in
+      let same : s.part ≡ hull = same_box (Some hull) s.part hull s.is_hull refl in
       let here : AreOver hull first events s.over = subst (λ (h : GridBox). AreOver h first events s.over) same s.are_over in
       let there : ShowHalfSpace s.over.rows hull q bound.half bound.sums = subst (λ (h : GridBox). ShowHalfSpace s.over.rows h q bound.half bound.sums) same s.shows in
-      let by : ShowHalfSpace over.rows hull q bound.half bound.sums =
-      subst (λ (o : RowsOver). ShowHalfSpace o.rows hull q bound.half bound.sums) (same_over hull first events s.over over here are_over) there in
-      subst (λ (fs : List FormValue). FormsShow fs hull q bound.half bound.sums) (sym formed) by
-
-  all_shown : (bounds : List BoundValue) → FormsShowAll forms hull q bounds → AreBoundsShown q first events bounds
-  all_shown [] h = tt
-  all_shown (bound ∷ more) h = (shown_by bound h.0, all_shown more h.1)
-
-  one_unshown : (bounds : List BoundValue) (k : ℕ) → IsFirstHidden forms hull q bounds k
-      → IsFirstUnshown q first events bounds k
-  one_unshown [] k f = f
-  one_unshown (bound ∷ more) k (inl f) = inl (λ shown. f.0 (shows bound shown), f.1)
-  one_unshown (bound ∷ more) k (inr (shown, (m, is, later))) = inr (shown_by bound shown, (m, is, one_unshown more m later))
-
-  pub told_by : (line : ℕ) (bounds : List BoundValue) (found : Option Fault)
-      → MatchOption found (FormsShowAll forms hull q bounds)
-      (λ fault. (k : ℕ) × IsFirstHidden forms hull q bounds k × (fault.number ≡ 66) × ShowsNoSpans fault × (fault.line ≡ line + k))
-      → MatchOption found (AreBoundsShown q first events bounds)
-      (λ fault. (k : ℕ) × IsFirstUnshown q first events bounds k × (fault.number ≡ 66) × ShowsNoSpans fault × (fault.line ≡ line + k))
-  told_by line bounds None h = all_shown bounds h
-  told_by line bounds (Some fault) (k, hidden, number, plain, at) = (k, one_unshown bounds k hidden, number, plain, at)
+      let by : ShowHalfSpace are.over.rows hull q bound.half bound.sums =
+      subst (λ (o : RowsOver). ShowHalfSpace o.rows hull q bound.half bound.sums) (same_over hull first events s.over are.over here are.are_over) there in
+      subst (λ (fs : List FormValue). FormsShow fs hull q bound.half bound.sums) (sym are.formed) by
 
 -- where no box is kept the first of them isn't shown
 pub none_shown : (q : ℕ) (first : RowsOver) (events : List Event) (bounds : List BoundValue) → 0 < length bounds
@@ -124,31 +119,34 @@ none_shown q first events (bound ∷ more) some none = inl (λ shown. absurd (le
 
 -- ---- one after another
 
-module _ (forms : List FormValue) (hull : GridBox) (q : ℕ) (all : List BoundValue) (line : ℕ) where
-  -- where the next line has this number, these bounds decide
-  pub record IsOnTheWay (next : ℕ) (left : List BoundValue) : Type 0 where
+module _ (q : ℕ) (first : RowsOver) (events : List Event) (start : GridBox) (all : List BoundValue) (line : ℕ) where
+  -- where the next line has this number, these bounds over this hull decide
+  pub record IsOnTheWay (next : ℕ) (hull : GridBox) (left : List BoundValue) : Type 0 where
     pub offset : ℕ
     pub next_is : next ≡ line + offset
-    pub pass : FormsShowAll forms hull q left → FormsShowAll forms hull q all
-    pub fail : (k : ℕ) → IsFirstHidden forms hull q left k → IsFirstHidden forms hull q all (offset + k)
+    pub pass : AreShownOver q first events (Some hull) left → AreShownOver q first events (Some start) all
+    pub fail : (k : ℕ) → IsFirstUnshownOver q first events (Some hull) left k
+        → IsFirstUnshownOver q first events (Some start) all (offset + k)
     pub lines : offset + lines_of_bounds left ≡ lines_of_bounds all
 
-  pub way_first : IsOnTheWay line all
+  pub way_first : IsOnTheWay line start all
   way_first = record {
     offset = 0;
     next_is = omega arith;
     pass = λ h. h;
-    fail = λ k f. subst (λ (n : ℕ). IsFirstHidden forms hull q all n) (omega arith) f;
+    fail = λ k f. subst (λ (n : ℕ). IsFirstUnshownOver q first events (Some start) all n) (omega arith) f;
     lines = omega arith;
   }
 
-  pub way_more : (next behind : ℕ) (bound : BoundValue) (left : List BoundValue) → IsOnTheWay next (bound ∷ left)
-      → FormsShow forms hull q bound.half bound.sums → behind ≡ next + lines_of_bound bound
-      → IsOnTheWay behind left
-  way_more next behind bound left w shown is = record {
+  pub way_more : (next behind : ℕ) (hull after : GridBox) (bound : BoundValue) (left : List BoundValue)
+      → IsOnTheWay next hull (bound ∷ left) → IsBoundShown q first events (Some hull) bound
+      → after ≡ box_under bound.half hull → behind ≡ next + lines_of_bound bound
+      → IsOnTheWay behind after left
+  way_more next behind hull after bound left w shown moved is = record {
     offset = w.offset + lines_of_bound bound;
     next_is = omega (arith, w.next_is, is);
-    pass = λ h. w.pass (shown, h);
-    fail = λ k f. subst (λ (n : ℕ). IsFirstHidden forms hull q all n) (omega arith) (w.fail (lines_of_bound bound + k) (inr (shown, (k, refl, f))));
+    pass = λ h. w.pass (shown, subst (λ (part : GridBox). AreShownOver q first events (Some part) left) moved h);
+    fail = λ k f. subst (λ (n : ℕ). IsFirstUnshownOver q first events (Some start) all n) (omega arith)
+        (w.fail (lines_of_bound bound + k) (inr (shown, (k, refl, subst (λ (part : GridBox). IsFirstUnshownOver q first events (Some part) left k) moved f))));
     lines = omega (arith, w.lines);
   }

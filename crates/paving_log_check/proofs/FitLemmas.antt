@@ -524,7 +524,7 @@ module _ (m : Meaning) (sound : IsSound m) (root : GridBox) (box : IsSearchBox r
         λ p b inside fit. covers_each (HoldsGiven m.delays renewed) rules body.done (test_in rules block) root body.events events p b inside (each p b fit) in
         record {
           epoch = record { partition = cover.partition; covers = covers; fits_inside = fits };
-          bounded = fit_bounds rules.outliers (rows_over root firsts) body.events (λ p b. Fits m root tag rules.outliers p b seens) covers each body.bounds
+          bounded = fit_bounds rules.outliers (rows_over root firsts) body.events (λ p b. Fits m root tag rules.outliers p b seens) each covers body.bounds
               (subst (λ (part : GridBox). AreBoundsShown rules.outliers (rows_over part firsts) body.events body.bounds) passes.0 passes.1.bounds);
         }
       where

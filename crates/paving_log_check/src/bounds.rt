@@ -1,19 +1,20 @@
 //! The tests of the bounds of a block, behind its splits.
 
-ghost use Rattle.std.specs.Prelude.{◌≡◌, ℕ, ◌+◌, ◌<◌, ◌≤◌, ◌^◌, List, length, map, IfOk, MatchOption};
+ghost use Rattle.std.specs.Prelude.{◌≡◌, ℕ, ◌+◌, ◌<◌, ◌≤◌, ◌^◌, length, map, Some, IfOk};
+ghost use Rattle.std.specs.Prelude.{MatchOption};
 ghost use Rattle.grid_model.specs.Boxes.{grid_box};
 ghost use Rattle.row_pairs.specs.FormValues.{form_value};
 ghost use Rattle.sat_model.specs.Bounds.{lines_of_bounds};
 ghost use Rattle.sat_model.specs.BoxTests.{test_of};
 ghost use Rattle.sat_model.specs.Events.{RowsOver, rows_over};
 ghost use Rattle.sat_model.specs.Renewals.{AnyLine};
-ghost use Rattle.sat_model.specs.ShownBounds.{rows_behind, AreOver, AreBoundsShown};
-ghost use Rattle.sat_model.specs.ShownBounds.{IsFirstUnshown};
+ghost use Rattle.sat_model.specs.ShownBounds.{rows_behind, AreOver, AreShownOver, AreBoundsShown};
+ghost use Rattle.sat_model.specs.ShownBounds.{IsFirstUnshownOver, IsFirstUnshown};
 ghost use Rattle.sat_model.specs.Stages.{first_stage};
 ghost use Rattle.sat_model.specs.Verdicts.{EventsPass};
 ghost use Rattle.paving_log.specs.Values.{bound_value, body_value};
 ghost use Rattle.paving_log_check.specs.Answers.{ShowsNoSpans};
-ghost use Rattle.paving_log_check.specs.FormBounds.{FormsShowAll, IsFirstHidden};
+ghost use Rattle.paving_log_check.specs.FormBounds.{AreFormsOver};
 
 use crate::faults::{BOUND_NOT_SHOWN, plain_fault};
 use crate::verdict::Fault;
@@ -24,7 +25,7 @@ use row_pairs::{Form, forms_of};
 use row_sums::forms_show;
 use sat_model::{Row, Rules};
 use std::alloc::Global;
-use subpaving::lies_in;
+use subpaving::{box_under, lies_in};
 
 /// The rows in use at the end, and the box over which they hold.
 fn last_rows<'a>(root: &'a Box3, firsts: &'a [Row], body: &'a Body) -> (&'a Box3, &'a [Row])
@@ -47,23 +48,50 @@ fn rows_for<'a>(root: &'a Box3, firsts: &'a [Row], body: &'a Body, hull: &Box3) 
     if lies_in(hull, part) { rows } else { firsts }
 }
 
-/// The first bound that the forms don't show over the hull, where `line` is the number of the first
-/// line of them.
-fn first_hidden(line: u32, forms: &[Form], hull: &Box3, q: u8, bounds: &[Bound]) -> Option<Fault>
-    requires { line + lines_of_bounds (map bound_value bounds.now) < 2 ^ 32 }
+/// Their forms over the hull.
+fn forms_for(root: &Box3, firsts: &[Row], body: &Body, hull: &Box3) -> ArrayVec<Form, 64>
+    requires firsts { length firsts.now ≤ 64 }
+    requires lasts { length (rows_behind (rows_over (grid_box root.now) firsts.now)
+        (body_value body.now).events).rows ≤ 64 }
+    ensures { AreFormsOver (rows_over (grid_box root.now) firsts.now) (body_value body.now).events
+        (grid_box hull.now) (map form_value result.items) }
+{
+    forms_of(rows_for(root, firsts, body, hull), hull)
+}
+
+/// The first of these bounds of a body that isn't shown, where the first of them is to be shown over
+/// the hull, and `line` is the number of its line.
+fn first_unshown(
+    line: u32,
+    root: &Box3,
+    firsts: &[Row],
+    q: u8,
+    body: &Body,
+    mut hull: Box3,
+) -> Option<Fault>
+    requires numbered { line + lines_of_bounds (body_value body.now).bounds < 2 ^ 32 }
+    requires firsts { length firsts.now ≤ 64 }
+    requires lasts { length (rows_behind (rows_over (grid_box root.now) firsts.now)
+        (body_value body.now).events).rows ≤ 64 }
     ensures { MatchOption result
-        (FormsShowAll (map form_value forms.now) (grid_box hull.now) q
-        (map bound_value bounds.now))
-        (λ fault. (k : ℕ) × IsFirstHidden (map form_value forms.now) (grid_box hull.now) q
-        (map bound_value bounds.now) k × (fault.number ≡ 66) × ShowsNoSpans fault
-        × (fault.line ≡ line + k)) }
+        (AreShownOver q (rows_over (grid_box root.now) firsts.now) (body_value body.now).events
+        (Some (grid_box hull)) (body_value body.now).bounds)
+        (λ fault. (k : ℕ) × IsFirstUnshownOver q (rows_over (grid_box root.now) firsts.now)
+        (body_value body.now).events (Some (grid_box hull)) (body_value body.now).bounds k
+        × (fault.number ≡ 66) × ShowsNoSpans fault × (fault.line ≡ line + k)) }
 {
     let mut next = line;
-    for bound in bounds {
-        if !forms_show(forms, hull, q, &bound.half, &bound.sums) {
+    let mut forms = forms_for(root, firsts, body, &hull);
+    for bound in &body.bounds {
+        if !forms_show(&forms, &hull, q, &bound.half, &bound.sums) {
             return Some(plain_fault(next, BOUND_NOT_SHOWN));
         }
         next += 1 + bound.sums.len() as u32;
+        let left = box_under(&bound.half, &hull);
+        if left != hull {
+            hull = left;
+            forms = forms_for(root, firsts, body, &hull);
+        }
     }
     None
 }
@@ -97,7 +125,6 @@ pub(crate) fn bounds_fault(
     let Some(hull) = kept_hull(alloc, root, &body.steps)? else {
         return Ok(Some(plain_fault(line, BOUND_NOT_SHOWN)));
     };
-    let rows = rows_for(root, firsts, body, &hull);
-    let forms: ArrayVec<Form, 64> = forms_of(rows, &hull);
-    Ok(first_hidden(line, &forms, &hull, rules.outliers, &body.bounds))
+    let found = first_unshown(line, root, firsts, rules.outliers, body, hull);
+    Ok(found)
 }

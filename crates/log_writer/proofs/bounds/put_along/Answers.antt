@@ -7,7 +7,7 @@ put_bound-requires g c = record { some = some_sum _ _ _ (bound_value c.in-Some.b
 
 pub returns-in-Some-clause-written : goal.returns-in-Some-clause-written
 returns-in-Some-clause-written g c =
-    wrote_one _ (bound_value c.in-Some.bound) _ _ _ _ _ c.put_bound.result c.in-Some.ensures.direction c.in-Some.ensures.shown c.put_bound.ensures.few c.put_bound.ensures.written
+    wrote_one _ _ _ _ (bound_value c.in-Some.bound) _ _ _ _ _ c.put_bound.result c.requires.forms c.in-Some.ensures.direction (rw c.deref.ensures.0 at c.in-Some.ensures.shown) c.put_bound.ensures.few c.narrow.ensures.hull c.put_bound.ensures.written
 
 pub returns-in-None-clause-written : goal.returns-in-None-clause-written
-returns-in-None-clause-written g c = wrote_none _ _ _ _ _ _
+returns-in-None-clause-written g c = wrote_none _ _ _ _ _ _ _

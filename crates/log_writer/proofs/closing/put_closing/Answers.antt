@@ -6,7 +6,7 @@ use Rattle.grid_model.specs.Boxes.{GridBox, grid_box}
 use Rattle.paving.proofs.TurnLemmas.{Suits}
 use Rattle.sat_model.specs.Events.{rows_over}
 use Rattle.subpaving.specs.LiveValues.{box_option}
-use Rattle.log_writer.specs.InUse.{rows_option}
+use Rattle.log_writer.specs.InUse.{rows_value, rows_option}
 use Rattle.log_writer.specs.LastRenewals.{RenewsOver}
 use Rattle.log_writer.proofs.EndLemmas.{new_fits, closing_last, closing_done, closing_bounds}
 use Rattle.log_writer.proofs.StepSizes.{gives_fit}
@@ -66,5 +66,5 @@ returns-clause-written g c =
     let hull = grid_box c.in-Some-kept.hull in
     let kept = ap box_option c.in-Some-kept.is in
     λ events behind. closing_bounds search.wanted.now c.in-Some.directions c.in-Some.is list c.over-list.ensures few maker first events c.args.done.now behind last renews
-    hull kept (c.requires.inside hull kept) c.showing_rows-rows.result.now c.showing_rows-rows.ensures.are _ _ _ _ c.put_bounds.result
+    hull kept (rows_value c.rows_at_end-at_end.result) c.rows_at_end-at_end.ensures _ _ _ _ c.put_bounds.result
     c.in_ok-put_last.ensures.written c.in_ok-put_done.ensures.written (rw c.as_slice-along.ensures.value at c.put_bounds.ensures.written)

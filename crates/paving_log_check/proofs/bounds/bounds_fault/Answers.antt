@@ -1,7 +1,7 @@
-use Rattle.std.proofs.Common.{◌≡◌, ℕ, zero, suc, ◌+◌, ◌<◌, false, eqb, arith, length, map, ap, subst, sym, ◌∙◌, List}
+use Rattle.std.proofs.Common.{◌≡◌, ℕ, zero, suc, ◌+◌, ◌<◌, false, eqb, arith, length, map, ap, subst, sym, ◌∙◌, List, Option}
 use Rattle.std.specs.Prelude.{MatchOption}
 use Rattle.std.proofs.lemmas.List.{length-map}
-use Rattle.grid_model.specs.Boxes.{grid_box}
+use Rattle.grid_model.specs.Boxes.{GridBox, grid_box}
 use Rattle.row_pairs.specs.FormValues.{form_value}
 use Rattle.sat_model.specs.BoxTests.{test_of}
 use Rattle.sat_model.specs.Events.{rows_over}
@@ -9,6 +9,7 @@ use Rattle.sat_model.specs.Fold.{first_boxes, pieces}
 use Rattle.sat_model.specs.KeptHulls.{kept_hull}
 use Rattle.sat_model.specs.Pairs.{form_of}
 use Rattle.sat_model.specs.Renewals.{AnyLine}
+use Rattle.sat_model.specs.ShownBounds.{AreShownOver, IsFirstUnshownOver}
 use Rattle.sat_model.specs.Stages.{first_stage}
 use Rattle.sat_model.specs.declared.steps.Step.{Step}
 use Rattle.step_lines.specs.Steps.{steps_of}
@@ -19,8 +20,7 @@ use Rattle.paving_log.specs.Values.{bound_value, body_value}
 use Rattle.paving_log.specs.declared.log.Bound.{Bound}
 use Rattle.paving_log.proofs.EventLemmas.{steps_in_events}
 use Rattle.paving_log_check.specs.Answers.{ShowsNoSpans}
-use Rattle.paving_log_check.specs.FormBounds.{FormsShowAll, IsFirstHidden}
-use Rattle.paving_log_check.proofs.BoundLemmas.{over_few, told_by, none_shown}
+use Rattle.paving_log_check.proofs.BoundLemmas.{lasts_few, none_shown}
 use Rattle.paving_log_check.proofs.bounds.bounds_fault.Goals as goal
 
 positive : (n : ℕ) → eqb n 0 ≡ false → 0 < n
@@ -50,31 +50,24 @@ returns-in_default c =
       omega (arith, c.plain_fault.ensures.line),
     )
 
-pub forms_of-forms-requires : goal.forms_of-forms-requires
-forms_of-forms-requires c =
-    let (over, are, is) = c.rows_for-rows.ensures in
+pub first_unshown-found-requires-clause-lasts : goal.first_unshown-found-requires-clause-lasts
+first_unshown-found-requires-clause-lasts c =
     let body = c.args.body.now in
     let root = grid_box c.args.root.now in
     let firsts = c.args.firsts.now in
-    let few = over_few c.args.rules.now body.done (first_stage (test_of c.args.rules.now firsts) root) (grid_box c.in-Some.hull) (rows_over root firsts)
-    (body_value body).events over c.requires.passes are in
-    (omega arith, omega (arith, few, ap length is, c.requires.rows))
+    omega (arith, c.requires.rows,
+    lasts_few c.args.rules.now body.done (first_stage (test_of c.args.rules.now firsts) root) (rows_over root firsts) (body_value body).events c.requires.passes)
 
 pub returns : goal.returns
 returns c =
-    let (over, are, is) = c.rows_for-rows.ensures in
     let body = c.args.body.now in
     let root = grid_box c.args.root.now in
     let first = rows_over root c.args.firsts.now in
     let events = (body_value body).events in
-    let hull = grid_box c.in-Some.hull in
     let q = c.args.rules.now.outliers in
     let steps = ap (λ (steps : List Step). kept_hull (pieces root steps)) (steps_in_events 0 (steps_of body.steps) body.renewals.items) in
-    let some = steps ∙ sym c.in_ok-hull.ensures ∙ ap box_option c.in-Some.is in
-    let formed = ap (map form_value) c.deref.ensures.0 ∙ c.forms_of-forms.ensures ∙ ap (map (form_of hull)) (sym is) in
-    let Told : List Bound → Type 0 = λ (bounds : List Bound). MatchOption c.first_hidden.result
-    (FormsShowAll (map form_value c.deref.result.now) hull q (map bound_value bounds))
-    (λ fault. (k : ℕ) × IsFirstHidden (map form_value c.deref.result.now) hull q (map bound_value bounds) k
-    × (fault.number ≡ 66) × ShowsNoSpans fault × (fault.line ≡ c.args.line + k)) in
-    told_by q first events hull some over are (map form_value c.deref.result.now) formed c.args.line (map bound_value body.bounds.items)
-    c.first_hidden.result (subst Told c.deref-2.ensures.value c.first_hidden.ensures)
+    let hull = steps ∙ sym c.in_ok-hull.ensures ∙ ap box_option c.in-Some.is in
+    subst (λ (part : Option GridBox). MatchOption c.first_unshown-found.result
+    (AreShownOver q first events part (body_value body).bounds)
+    (λ fault. (k : ℕ) × IsFirstUnshownOver q first events part (body_value body).bounds k
+    × (fault.number ≡ 66) × ShowsNoSpans fault × (fault.line ≡ c.args.line + k))) (sym hull) c.first_unshown-found.ensures
