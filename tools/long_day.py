@@ -70,29 +70,29 @@ class Sky:
         return [(satellite, air) for _, satellite, air in sorted(seen, reverse=True)[:MOST]]
 
 
-def epoch_texts(sky, count, step=1):
-    """The texts of so many epochs, one in so many seconds. Which satellites are in sight and how the air delays them is
-    told once a minute."""
+def epoch_texts(sky, count, step=1, way=(0, 0, 0)):
+    """The texts of so many epochs, one in so many seconds, of a receiver that goes so far along x, y and z in a second, in
+    m. Which satellites are in sight and how the air delays them is told once a minute."""
     draw = random.Random(86400)
     for time in range(sky.start, sky.start + count * step, step):
         if (time - sky.start) % 60 == 0:
             sight = sky.in_sight(time)
-        lines = []
+        lines, place = [], [at + (time - sky.start) * part for at, part in zip(PLACE, way)]
         for satellite, air in sight:
             if record := sky.record(satellite, time):
-                code = arrival(record, PLACE, time)[1] + air + draw.uniform(-NOISE, NOISE)
+                code = arrival(record, place, time)[1] + air + draw.uniform(-NOISE, NOISE)
                 lines.append(f"{satellite}{code:14.3f}  {code / LENGTH_L1:14.3f}  {0:14.3f}  {45:14.3f}  \n")
         yield epoch_line(EPOCH + datetime.timedelta(seconds=time), len(lines)) + "\n" + "".join(lines)
 
 
-def make_files(folder, nav, count, step=1):
+def make_files(folder, nav, count, step=1, way=(0, 0, 0)):
     """The three files of so many epochs, one in so many seconds."""
     head, records = navigation_parts(os.path.abspath(nav))
     folder.write(FILES[1], head, *records)
     folder.write(FILES[2], settings_with(half=100000, bisections=8, **BOUNDS).split("\n[satellite]\n")[0] + "\n")
     with open(folder.path / FILES[0], "w", encoding="ascii", newline="\n") as file:
         file.write(observation_parts()[0])
-        file.writelines(epoch_texts(Sky([Record(text) for text in records]), count, step))
+        file.writelines(epoch_texts(Sky([Record(text) for text in records]), count, step, way))
 
 
 def cut_after(folder, name, count):

@@ -26,7 +26,8 @@ ROOT = Path(__file__).resolve().parent.parent
 
 def files_of(base, part):
     """The rows of the files of a part by role; navigation files are a list."""
-    words = "SELECT role, name, sha256, verdict FROM files WHERE station = ? AND day = ? AND part = ? ORDER BY rowid"
+    columns = "role, name, sha256, verdict, command"
+    words = f"SELECT {columns} FROM files WHERE station = ? AND day = ? AND part = ? ORDER BY rowid"
     found = {"navigation": []}
     for role, *row in base.execute(words, part):
         if role == "navigation":
@@ -46,7 +47,7 @@ def verdict_of(part, files, args, room):
     """What the second checker says of a part, whose files are those of the database."""
     station, day, number = part
     beside = [files["beside"]] if "beside" in files else []
-    for name, wanted, _ in [files["observations"], *files["navigation"], *beside]:
+    for name, wanted, *_ in [files["observations"], *files["navigation"], *beside]:
         expect(name, wanted, name)
     obs, nav = unpack_all(files["observations"][0], [name for name, *_ in files["navigation"]], room)
     settings = Path(args.settings or Path(args.logs).parent / "settings", station, f"{day}.toml")
@@ -54,9 +55,9 @@ def verdict_of(part, files, args, room):
     unpacked(Path(args.logs, station, day, f"{number}.log.zst"), log)
     for path, role in (obs, "obs"), (nav, "nav"), (settings, "settings"), (log, "log"):
         expect(path, files[role][1], f"{role} ({path})" if role == "settings" else role)
-    words = [sys.executable, ROOT / "second/recheck.py", obs, nav, settings, log]
-    words += files["log"][0].split()
-    for name, _, _ in beside:
+    track = ["--track"] if files["log"][3] == "track" else []
+    words = [sys.executable, ROOT / "second/recheck.py", *track, obs, nav, settings, log, *files["log"][0].split()]
+    for name, *_ in beside:
         unpack_one(name, f"{room}/station")
         expect(f"{room}/station", files["station"][1], "station")
         words += ["--station", f"{room}/station"]

@@ -23,6 +23,7 @@ WRITTEN = {
     "check": "verdict",
     "compress": "zst",
     "rows": "csv",
+    "look": "html",
     "day": "csv",
     "database": "sqlite",
     "page": "html",

@@ -22,6 +22,7 @@ COSTS = {
     "check": (20, 1500),
     "compress": (5, 200),
     "rows": (20, 300),
+    "look": (20, 1000),
     "day": (5, 200),
     "database": (60, 500),
     "page": (60, 1000),
@@ -34,7 +35,7 @@ class ConfigError(Exception):
 
 @dataclass(frozen=True)
 class Station:
-    """A receiver: its name, what its files are called, where it is in mm, and the words for its bounds."""
+    """A receiver: its name, what its files are called, where it is, and the words for its bounds."""
 
     name: str
     days: tuple
@@ -44,6 +45,7 @@ class Station:
     place: tuple  # x, y, z in mm, or None
     bounds: str  # words of `gpslog bounds` behind the place, or an empty text
     beside: str  # which other one is its station, for rows of differences, or an empty text
+    known: tuple  # x, y, z in mm of where it is known to stand, or None
 
 
 def date_of(value, key):
@@ -78,7 +80,7 @@ def one_of(config, key, choices):
     """One of some words; the first where the key isn't there."""
     value = config.get(key, choices[0])
     if value not in choices:
-        raise ConfigError(f"{key}: {' or '.join(choices)} is needed, not {value!r}")
+        raise ConfigError(f"{key}: {' or '.join(map(str, choices)).lower()} is needed, not {value!r}")
     return value
 
 
@@ -91,6 +93,28 @@ def place_of(value, key):
     return tuple(round(at * 1000) for at in value)
 
 
+def known_of(value, place, key):
+    """The known place in whole mm, which may be said to be the station's place, or None."""
+    if value != "place":
+        return place_of(value, key)
+    if place is None:
+        raise ConfigError(f"{key}: the station has no place")
+    return place
+
+
+def limits_of(value):
+    """The two alert limits in m, or None."""
+    if value is None:
+        return None
+    if (
+        not isinstance(value, list)
+        or len(value) != 2
+        or not all(isinstance(at, (int, float)) and at > 0 for at in value)
+    ):
+        raise ConfigError(f"limits: [along the ground, up] in metres is needed, not {value!r}")
+    return tuple(value)
+
+
 def station_of(name, own, common):
     """A station: what it has of its own comes before what all have."""
     if not re.fullmatch(STATION, name):
@@ -99,16 +123,17 @@ def station_of(name, own, common):
     for key in ("days", "observations", "navigation", "settings"):
         if key not in value:
             raise ConfigError(f"stations: {name} has no {key}")
-    navigation = value["navigation"]
+    navigation, place = value["navigation"], place_of(value.get("place"), f"{name}: place")
     return Station(
         name,
         days_of(value["days"], f"{name}: days"),
         value["observations"],
         (navigation,) if isinstance(navigation, str) else tuple(navigation),
         value["settings"],
-        place_of(value.get("place"), f"{name}: place"),
+        place,
         value.get("bounds", ""),
         value.get("beside", ""),
+        known_of(value.get("known"), place, f"{name}: known"),
     )
 
 
@@ -126,6 +151,8 @@ class Network:
         self.part = min(count_of(config, "part", MOST_EPOCHS), self.epochs)
         self.keeps_log = one_of(config, "keep", ("log", "checksum")) == "log"
         self.leaves_absent = one_of(config, "absent", ("fail", "leave")) == "leave"
+        self.has_pages = one_of(config, "pages", (False, True))
+        self.limits = limits_of(config.get("limits"))
         self.costs = {**COSTS, **(config.get("costs") or {})}
         self.parts = range(1, -(-self.epochs // self.part) + 1)
         for name, station in self.stations.items():
@@ -157,6 +184,10 @@ class Network:
         """Where that one is in mm, or None."""
         name = self.stations[station].beside
         return self.stations[name].place if name else None
+
+    def told_places(self, station):
+        """The words for what is known of a place: x,y,z in mm, and the limits in m; empty texts where there is none."""
+        return [",".join(map(str, it or ())) for it in (self.stations[station].known, self.limits)]
 
     def navigation(self, station, day):
         """The names of the day's navigation files; the header of the first is taken."""

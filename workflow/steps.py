@@ -13,6 +13,7 @@ import argparse
 import contextlib
 import csv
 import os
+import re
 import resource
 import shutil
 import socket
@@ -22,14 +23,37 @@ import time
 from pathlib import Path
 from string import Template
 
-from gpscover import summary
+import report
 import tables
+from epoch_table import ROW_HEAD, epoch_lines
 from gpscover.errors import Error
+from gpscover.integrity import Limits
+from gpscover.observations import absent_codes
+from gpscover.settings import Settings, toml
 from files import StepError, digest, last_line, read_json, run, settle, unpack_all, unpack_one, unpacked, write_json
 from network import COSTS, told
 
 ROOT = Path(__file__).resolve().parent.parent
 BOUNDS_HEAD = "[bounds]"
+
+
+def numbers(text, kind):
+    """The numbers of a word of the command line, or None where it is empty."""
+    return tuple(map(kind, text.split(","))) if text else None
+
+
+def run_on(words, what, settings, files):
+    """Runs the program on files: their paths and the names that they were given, by role. A code that a file lacks is
+    named."""
+    try:
+        run(words, what, stdout=subprocess.DEVNULL)
+    except StepError as error:
+        found = re.search(r"\b(obs|station) 16 CodeAbsent", f"{error}")
+        path, name = files[found[1]] if found else ("", "")
+        absent = absent_codes(path, Settings.read(settings)) if found else []
+        if not absent:
+            raise
+        raise StepError(f"{error}: {name} has no {' and no '.join(absent)}") from None
 
 
 # ---- unpack
@@ -63,6 +87,11 @@ def filled(path, place, beside):
         raise StepError(f"{path}: {error} can't be filled: does the station have a place?") from None
 
 
+def metres(place):
+    """A place in mm as words in m."""
+    return [f"{at / 1000:.3f}" for at in place]
+
+
 def by_elevation(args, text, place, room):
     """Settings whose tables of bounds are made by `gpslog bounds` of a first look without splits."""
     head, found, _ = text.partition(BOUNDS_HEAD)
@@ -72,9 +101,8 @@ def by_elevation(args, text, place, room):
     Path(f"{room}/first").write_text(first + "\n", encoding="utf-8")
     obs, nav = unpack_all(args.file["observations"], args.words, room)
     words = [args.program, "solve", obs, nav, f"{room}/first", f"{room}/log"]
-    run(words, "a first look", stdout=subprocess.DEVNULL)
-    metres = [f"{at / 1000:.3f}" for at in place]
-    words = [sys.executable, "-m", "gpscover", "bounds", f"{room}/log", *metres, *args.bounds.split()]
+    run_on(words, "a first look", f"{room}/first", {"obs": (obs, args.file["observations"])})
+    words = [sys.executable, "-m", "gpscover", "bounds", f"{room}/log", *metres(place), *args.bounds.split()]
     return head + run(words, "bounds", stdout=subprocess.PIPE).stdout.decode()
 
 
@@ -82,7 +110,7 @@ def settings(args, room):
     """The settings of a day: those of the station, or a template with its place and its bounds by elevation."""
     if not os.path.exists(args.file["template"]):
         raise StepError(f"{args.file['template']} isn't there")
-    place, beside = (tuple(map(int, it.split(","))) if it else None for it in (args.place, args.beside))
+    place, beside = (numbers(it, int) for it in (args.place, args.beside))
     text = filled(args.file["template"], place, beside)
     if args.bounds:
         text = by_elevation(args, text, place, room)
@@ -106,11 +134,25 @@ def station_words(args):
     return ["--station", path] if os.path.getsize(path) else []
 
 
+def command_words(args):
+    """The two commands of a part, with the words that both have behind the files: `track` and `retrack` where the day's
+    settings say how fast the receiver moves at most, else `solve` and `check`.
+
+    What ties a part to another one, if anything, stands here alone: each part is searched from the settings' search box on.
+    """
+    with contextlib.suppress(ValueError):  # settings that can't be read are refused by the program, which says why
+        if "motion" in toml().loads(Path(args.file["settings"]).read_text(encoding="utf-8")):
+            return "track", "retrack", [*args.words, *station_words(args)]
+    return "solve", "check", [*args.words, *station_words(args)]
+
+
 def solve(args, room):
-    """Solves the epochs of a part. The report is left out: the log has all of it."""
+    """Solves or tracks the epochs of a part. The report is left out: the log has all of it."""
+    command, _, more = command_words(args)
+    given = {it["role"]: it["name"] for it in read_json(args.file["sources"])}
     files = [args.file[key] for key in ("obs", "nav", "settings")]
-    words = [program_of(args), "solve", *files, f"{room}/log", *args.words, *station_words(args)]
-    run(words, "solve", stdout=subprocess.DEVNULL)
+    roles = {"obs": (files[0], given["observations"]), "station": (args.file["station"], given.get("beside"))}
+    run_on([program_of(args), command, *files, f"{room}/log", *more], command, files[2], roles)
     settle(f"{room}/log", args.file["log"])
 
 
@@ -134,19 +176,20 @@ def put_aside(args, verdict):
 
 def check(args, room):
     """Checks a log with the options that it was solved with, and notes verdict and checksums."""
-    more = station_words(args)
-    keys = ("obs", "nav", "settings", "log") + (("station",) if more else ())
+    solved_by, command, more = command_words(args)
+    keys = ("obs", "nav", "settings", "log") + (("station",) if "--station" in more else ())
     files = {key: digest(args.file[key]) for key in keys}
-    words = [program_of(args), "check", *(args.file[key] for key in keys[:4]), *args.words, *more]
+    words = [program_of(args), command, *(args.file[key] for key in keys[:4]), *more]
     ended = subprocess.run(words, capture_output=True, text=True)
     said = last_line(ended.stdout or ended.stderr)
     if ended.returncode == 1 or ended.returncode == 3 and said.startswith("log "):
         put_aside(args, said)
     if ended.returncode != 0 or not said.startswith("yes "):
-        raise StepError(f"check: status {ended.returncode}, {said}")
+        raise StepError(f"{command}: status {ended.returncode}, {said}")
     if files != {key: digest(args.file[key]) for key in keys}:
         put_aside(args, "a file has changed while it was checked")
     value = {"station": args.station, "day": args.day, "part": int(args.part), "options": " ".join(args.words)}
+    value["command"] = solved_by
     program = {"sha256": digest(args.program)["sha256"], "commit": commit()}
     sources = read_json(args.file["sources"])
     write_json(f"{room}/verdict", {**value, "verdict": said, "files": files, "sources": sources, "program": program})
@@ -166,27 +209,55 @@ def compress(args, room):
 # ---- tables
 
 
+def is_checked(zst, verdict, target):
+    """Whether a compressed log, which is unpacked to `target`, is the one that the verdict is of."""
+    return unpacked(zst, target) == verdict["files"]["log"]
+
+
 def rows(args, room):
     """A line an epoch of a checked log. A log that isn't the checked one is put aside, so that it is made again."""
-    args.file["log"] = args.file["zst"]
+    args.file["log"], verdict = args.file["zst"], read_json(args.file["verdict"])
     try:
-        is_checked = unpacked(args.file["zst"], f"{room}/log") == read_json(args.file["verdict"])["files"]["log"]
+        is_right = is_checked(args.file["zst"], verdict, f"{room}/log")
     except StepError as error:
         put_aside(args, f"{error}")
-    if not is_checked:
+    if not is_right:
         put_aside(args, "it isn't the one that was checked")
+    known, limits = (numbers(it, float) for it in (args.known, args.limits))
+    place = known and tuple(at / 1000 for at in known)
     with open(f"{room}/csv", "w", encoding="utf-8", newline="") as file:
         table = csv.writer(file, lineterminator="\n")
-        table.writerow(tables.ROW_HEAD)
-        head = [args.station, args.day, args.part]
-        summary.summarize(f"{room}/log", lambda *epoch: table.writerow(head + summary.csv_line(*epoch[:3])))
+        table.writerow(ROW_HEAD)
+        head, is_track = [args.station, args.day, args.part], verdict["command"] == "track"
+        for values in epoch_lines(f"{room}/log", is_track, place, limits and Limits(*limits)):
+            table.writerow(head + values)
     settle(f"{room}/csv", args.file["csv"])
+
+
+def halves(paths):
+    """The verdicts of a day's parts, and as many files of another kind."""
+    return paths[: len(paths) // 2], paths[len(paths) // 2 :]
+
+
+def look(args, room):
+    """The page of a day: `gpslog page` of the logs of its parts."""
+    logs = []
+    for verdict, zst in zip(*halves(args.words)):
+        logs.append(f"{room}/{args.station}-{args.day}-{Path(zst).name.partition('.')[0]}.log")
+        if not is_checked(zst, read_json(verdict), logs[-1]):
+            raise StepError(f"{zst} isn't the log that was checked")
+    words = ["--settings", args.file["settings"], "--title", f"{args.station} {args.day}"]
+    if args.known:
+        Path(f"{room}/places").write_text(" ".join(metres(numbers(args.known, int))) + "\n", encoding="ascii")
+        words += ["--places", f"{room}/places"]
+        words += ["--limit", *args.limits.split(",")] if args.limits else []
+    run([sys.executable, "-m", "gpscover", "page", *logs, f"{room}/page.html", *words], "page")
+    settle(f"{room}/page.html", args.file["html"])
 
 
 def day(args, room):
     """One table of a day of a station: the rows of its parts in order, all of the same files."""
-    paths = args.words
-    verdicts, parts = paths[: len(paths) // 2], paths[len(paths) // 2 :]
+    verdicts, parts = halves(args.words)
     found = [read_json(path)["files"] for path in verdicts]
     for key in ("obs", "nav", "settings"):
         if len({files[key]["sha256"] for files in found}) != 1:
@@ -214,7 +285,7 @@ def database(args, room):
 
 def page(args, room):
     """The page of the run."""
-    Path(f"{room}/html").write_text(tables.page(args.file["sqlite"], args.epochs), encoding="utf-8")
+    Path(f"{room}/html").write_text(report.page(args.file["sqlite"], args.epochs, *args.words), encoding="utf-8")
     settle(f"{room}/html", args.file["html"])
 
 
@@ -261,6 +332,8 @@ def arguments():
     parser.add_argument("--place", default="")
     parser.add_argument("--beside", default="")
     parser.add_argument("--bounds", default="")
+    parser.add_argument("--known", default="")
+    parser.add_argument("--limits", default="")
     parser.add_argument("--epochs", type=int, default=0)
     parser.add_argument("--name", nargs="+", default=[], metavar="KEY=FILE")
     args, args.words = parser.parse_known_args()

@@ -1,8 +1,8 @@
 """Tests of the workflow.
 
-Two recorded stations with a day of two parts each are solved, checked and tabled on four jobs; then jobs are
-killed, files changed or taken away, and a disk filled. Each time the run has to end with a line that names
-station, day and part, the other parts have to be done, and the next run has to make the same tables to the
+Two recorded stations with a day of two parts each, which are tracks of one of them, are solved, checked and tabled
+on four jobs; then jobs are killed, files changed or taken away, and a disk filled. Each time the run has to end with
+a line that names station, day and part, the other parts have to be done, and the next run has to make the same tables to the
 byte. With --slurm the same is run on a Slurm, with a node that is drained and one that is lost:
 scripts/slurm_here.sh --nodes 2 -- python3 -m pytest workflow --slurm --program=PROGRAM.
 """
@@ -21,60 +21,10 @@ from pathlib import Path
 import pytest
 
 from gpscover.log import epochs as epochs_of
+from rooms import HERE, LATEST, ROOT, STATION, TABLES, Room
 from tools.made import made_network
 
-HERE = Path(__file__).resolve().parent
-ROOT = HERE.parent
-STATION = ROOT / "examples/station"
-TABLES = ("network.sqlite", "network.html", "days/GEON/2005-04-02.csv", "days/UBX0/2008-05-26.csv")
 PARTS = ("GEON/2005-04-02/1", "GEON/2005-04-02/2", "UBX0/2008-05-26/1", "UBX0/2008-05-26/2")
-LATEST = 120  # seconds that a run may take
-
-SETTINGS = """\
-[search]
-centre = $centre
-half = 1000000
-outliers = 1
-bisections = 16
-width = 1000
-max_age = 7200
-[signal]
-mode = "{}"
-codes = {}
-[bounds]
-receiver = [-5000, 5000]
-orbit_clock = [-4000, 4000]
-ionosphere = {}
-troposphere = [2000, 25000]
-"""
-CONFIG = """\
-program: {program}
-out: out
-epochs: 4
-part: 2
-observations: data/{{station}}{{day:%Y%j}}.obs.gz
-navigation: data/brdc{{day:%Y%j}}.nav
-stations:
-  UBX0: {{days: [2008-05-26], settings: data/single.toml, place: [-3869310.0, 3436566.0, 3717366.0]}}
-  GEON: {{days: [2005-04-02], settings: data/dual.toml, place: [-3976219.0, 3382372.0, 3652511.0]}}
-"""
-# A program that waits before it solves the part that the file `hold` names, while it does, and writes its
-# number to `held`.
-HELD = """\
-#!/bin/sh
-room=$(dirname "$0")
-if [ "$1" = solve ] && [ -e "$room/hold" ]; then
-    case $2 in
-        *"$(cat "$room/hold")".obs)
-            echo $$ >"$room/held.next"
-            mv "$room/held.next" "$room/held"
-            while [ -e "$room/hold" ]; do sleep 0.1; done
-            ;;
-    esac
-fi
-exec '{program}' "$@"
-"""
-
 
 pytestmark = pytest.mark.skipif(
     not (shutil.which("snakemake") and shutil.which("zstd")), reason="snakemake or zstd isn't there"
@@ -99,101 +49,6 @@ def whole(program):
         return tables
     finally:
         room.remove()
-
-
-class Room:
-    """A folder with the files of two stations, in which the workflow is run."""
-
-    def __init__(self, program):
-        self.program = program
-        self.path = Path(tempfile.mkdtemp(prefix="workflow-"))
-        self.out = self.path / "out"
-        data = self.path / "data"
-        data.mkdir()
-        for name, obs, nav in (
-            ("UBX02008147", ROOT / "examples/receiver.obs", ROOT / "examples/receiver.nav"),
-            ("GEON2005092", STATION / "receiver.obs", STATION / "receiver.nav"),
-        ):
-            (data / f"{name}.obs.gz").write_bytes(gzip.compress(obs.read_bytes(), mtime=0))
-            shutil.copy(nav, data / f"brdc{name[4:]}.nav")
-        (data / "single.toml").write_text(SETTINGS.format("single", '["C1C"]', "[0, 25000]"))
-        (data / "dual.toml").write_text(SETTINGS.format("dual", '["C1C", "C2W"]', "[-500, 500]"))
-        held = self.path / "program"
-        held.write_text(HELD.format(program=self.program))
-        held.chmod(0o755)
-        self.configure(CONFIG.format(program=held))
-
-    def configuration(self):
-        """The configuration."""
-        return (self.path / "config.yaml").read_text()
-
-    def configure(self, text):
-        """Writes the configuration."""
-        (self.path / "config.yaml").write_text(text)
-
-    def words(self, *more, jobs=4, profile="local"):
-        """The words of a run."""
-        head = ["snakemake", "-s", HERE / "Snakefile", "--configfile", "config.yaml"]
-        return [*map(str, head), "--profile", str(HERE / profile), "--jobs", f"{jobs}", *more]
-
-    def begin(self, *more, **ways):
-        """Begins a run, whose words go to the file `said`."""
-        with open(self.path / "said", "wb") as said:
-            return subprocess.Popen(
-                self.words(*more, **ways), cwd=self.path, stdout=said, stderr=subprocess.STDOUT, start_new_session=True
-            )
-
-    def said(self):
-        """What the last run said."""
-        return (self.path / "said").read_text(errors="replace")
-
-    def lines(self):
-        """What the last run said of jobs that weren't done."""
-        return sorted(re.findall(r"^gpscover: not done: (.*)$", self.said(), re.MULTILINE))
-
-    def run(self, *more, **ways):
-        """Runs the workflow to its end. The status."""
-        process = self.begin(*more, **ways)
-        try:
-            return process.wait(LATEST)
-        except subprocess.TimeoutExpired:
-            os.killpg(process.pid, signal.SIGKILL)
-            raise
-
-    def hold(self, part):
-        """Has the program wait before it solves a part."""
-        (self.path / "hold").write_text(part)
-
-    def held(self):
-        """The number of the program that waits, once it does."""
-        return int(self.wait_for(self.path / "held").read_text())
-
-    def wait_for(self, path):
-        """A file, once it is there."""
-        end = time.time() + LATEST
-        while not path.exists():
-            if time.time() > end:
-                raise AssertionError(f"{path} doesn't come: {self.said()[-2000:]}")
-            time.sleep(0.05)
-        return path
-
-    def free(self):
-        """Lets the program go on."""
-        for name in "hold", "held":
-            (self.path / name).unlink(missing_ok=True)
-
-    def tables(self):
-        """The bytes of the tables, or None where one isn't there."""
-        return {name: (self.out / name).read_bytes() if (self.out / name).exists() else None for name in TABLES}
-
-    def verdicts(self):
-        """The parts that have a verdict."""
-        found = (self.out / "verdicts").glob("*/*/*.json")
-        return sorted(str(path.relative_to(self.out / "verdicts"))[: -len(".json")] for path in found)
-
-    def remove(self):
-        """Removes the folder."""
-        shutil.rmtree(self.path, ignore_errors=True)
 
 
 def parent(pid):
@@ -254,20 +109,29 @@ class TestWhole(Base):
             wanted = [(station, (k + 1) // 2, k) for station in ("GEON", "UBX0") for k in range(1, 5)]
             assert [row[:3] for row in epochs] == wanted
             assert {row[:1] + row[3:4] for row in epochs if row[2] == 1} == {("GEON", 8), ("UBX0", 9)}
-            said = base.execute("SELECT name, verdict LIKE 'yes %' FROM files WHERE role = 'log'").fetchall()
-            assert said == [("--from 1 --to 2", 1), ("--from 3", 1)] * 2
+            words = "SELECT command, name, verdict LIKE 'yes %' FROM files WHERE role = 'log'"
+            options = ("--from 1 --to 2", "--from 3")
+            said = [(command, option, 1) for command in ("solve", "track") for option in options]
+            assert base.execute(words).fetchall() == said
+            # Each part of a track is a piece. Only what has a known place is judged by it.
+            words = "SELECT station, piece, held, hpl_m > 0, available, misleading, certified FROM epochs"
+            wanted = {("GEON", None, None, None, 1, None, 0), ("UBX0", 1, 1, 1, 1, 0, 0)}
+            assert set(base.execute(words)) == wanted
+            assert base.execute("SELECT * FROM limits").fetchall() == [(1000, 1000)]
             base.close()
 
     def test_other_ways_of_a_configuration(self):
+        pytest.importorskip("plotly")  # for the pages of the days, which are made of logs that aren't kept
         config = self.room.configuration().replace("[2008-05-26]", "[2008-05-26, 2008-05-27]")
         config = config.replace("settings: data/single.toml", 'settings: data/single.toml, bounds: "single --zenith"')
-        self.room.configure(config + "absent: leave\nkeep: checksum\n")
+        self.room.configure(config + "absent: leave\nkeep: checksum\npages: true\n")
         assert self.room.run() == 0, self.room.said()
         assert "gpscover: UBX0 2008-05-27: no observation file, left out" in self.room.said()
         base = sqlite3.connect(self.room.out / "network.sqlite")
         assert base.execute("SELECT * FROM absent").fetchall() == [("UBX0", "2008-05-27")]
         base.close()
         assert list((self.room.out / "logs").rglob("*.zst")) == []
+        assert len(list((self.room.out / "pages").rglob("*.html"))) == 2
         self.has_nothing_to_do()
         text = (self.room.out / "settings/UBX0/2008-05-26.toml").read_text()
         assert "centre = [-3869310000, 3436566000, 3717366000]\n" in text
@@ -318,6 +182,9 @@ class TestWhole(Base):
                 config.replace("settings: data/single", "beside: GEON, bounds: x, settings: data/single"),
                 "UBX0: bounds: those of differences stand in the settings",
             ),
+            (config.replace("[1000, 1000]", "200"), "limits: [along the ground, up] in metres is needed, not 200"),
+            (config + "pages: maybe\n", "pages: false or true is needed, not 'maybe'"),
+            (config.replace(", place: [-3869310.0", ", elsewhere: [0"), "UBX0: known: the station has no place"),
         ):
             self.room.configure(wrong)
             assert self.room.run() != 0
@@ -442,7 +309,7 @@ class TestFullDisk(Base):
         self.at_end(lambda: subprocess.run(["umount", str(disk)]))
         assert self.room.run() == 1
         name = r"\w{4} \d{4}-\d\d-\d\d part \d"
-        assert re.search(f"gpscover: {name}: solve: solve: status 5, log fault", self.room.said())
+        assert re.search(f"gpscover: {name}: solve: (solve|track): status 5, log fault", self.room.said())
         for line in self.room.lines():
             assert re.search(rf"^{name}: \w+: ", line)
         assert len(self.room.verdicts()) < len(PARTS)

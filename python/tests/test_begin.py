@@ -4,13 +4,15 @@ import gzip
 import os
 import shutil
 import tempfile
+from dataclasses import replace
 from pathlib import Path
 
 import pytest
 from made_logs import EXAMPLES, ended
 
-from gpscover import Settings, begin, geodesy, open_log
+from gpscover import Settings, begin, geodesy, observations, open_log
 from gpscover.program import own_program
+from gpscover.settings import Galileo
 
 PROGRAM = os.environ.get("GPSCOVER") or str(own_program())
 NAV = EXAMPLES / "receiver.nav"
@@ -78,3 +80,31 @@ class TestBegin:
         assert parts.troposphere == (least, 2.65)
         assert parts.ionosphere == (0.0, 10.0)
         assert begin.parts_for(geodesy.earth_fixed(0.2, 0.1, 0))[0].ionosphere == (0.0, 25.0)
+
+
+class TestCodes:
+    # The second line of a system goes on with its types (RINEX 3.04, table A2).
+    HEAD = (
+        f"{'G   14 C1C L1C D1C S1C C1W L1W D1W S1W C2W L2W D2W S2W C5Q':60}SYS / # / OBS TYPES\n"
+        f"{'       C5X':60}SYS / # / OBS TYPES\n"
+        f"{'E    2 C1C C5Q':60}SYS / # / OBS TYPES\n"
+        f"{'':60}END OF HEADER\n"
+        f"{'R    1 C1P':60}SYS / # / OBS TYPES\n"
+    )
+
+    def test_codes_that_a_file_lacks_are_named_with_those_that_it_has(self, room):
+        path = room / "made.obs"
+        path.write_text(self.HEAD, encoding="ascii")
+        assert observations.types_of(path)["G"][-2:] == ["C5Q", "C5X"]
+        assert sorted(observations.types_of(path)) == ["E", "G"]
+        settings = Settings.read(EXAMPLES / "settings.toml")
+        dual = replace(settings, signal=replace(settings.signal, codes=("C1C", "C2X")))
+        both = replace(dual, galileo=Galileo(("C1X", "C5Q"), (-100, 100)))
+        lacks = "C2X of GPS (there is C1C C1W C2W C5Q C5X)"
+        assert observations.absent_codes(path, settings) == []
+        assert observations.absent_codes(path, dual) == [lacks]
+        assert observations.absent_codes(path, both) == [lacks, "C1X of Galileo (there is C1C C5Q)"]
+        path.write_text(self.HEAD.replace("E    2", "S    2"), encoding="ascii")
+        assert observations.absent_codes(path, both)[1:] == [
+            f"{it} of Galileo (there is none)" for it in ("C1X", "C5Q")
+        ]

@@ -50,6 +50,10 @@ bisections = 32
 width = 1000
 max_age = 14400
 pairs = true
+directions = 8
+
+[motion]
+speed = 0
 
 [signal]
 mode = "single"

@@ -7,10 +7,20 @@ from unittest import mock
 
 import pytest
 
-from made_logs import FIVE, HEAD, PAVED, RENEWED, epoch_of, written
+from made_logs import FIVE, HEAD, PAVED, RENEWED, box_at, epoch_of, written
 
 from gpscover.log import Interval, Row
-from tools import bench, bounds_measured, certified_table, exact_extents, largest_sizes, long_day, pairs_table, renewed
+from tools import (
+    bench,
+    bounds_measured,
+    certified_table,
+    exact_extents,
+    largest_sizes,
+    long_day,
+    pairs_table,
+    renewed,
+    standing_day,
+)
 from tools.made import orbits
 from tools.tests.program import ended
 
@@ -126,6 +136,38 @@ class TestLongDay:
         left = [code - orbits.arrival(sky.record(satellite, time), long_day.PLACE, time)[1] for satellite, code in seen]
         assert len(left) == 9
         assert max(left) - min(left) < 20
+
+    def test_a_receiver_that_moves_away_from_the_place_has_other_ranges(self):
+        sky = long_day.Sky([orbits.Record(text) for text in largest_sizes.navigation_parts()[1]])
+        still, moving = ("".join(long_day.epoch_texts(sky, 2, 30, way)).splitlines() for way in ((0, 0, 0), (0, 0, 1)))
+        changed = {}
+        for one, other in zip(still, moving):
+            if one[0] != ">":
+                changed.setdefault(one[:3], []).append(float(other[3:17]) - float(one[3:17]))
+        for satellite, (first, second) in changed.items():
+            there, _ = orbits.arrival(sky.record(satellite, sky.start + 30), long_day.PLACE, sky.start + 30)
+            away = [a - b for a, b in zip(there, long_day.PLACE)]
+            # By 30 m along z the range changes by as much as the satellite stands in that direction.
+            assert first == 0 and abs(second + 30 * away[2] / math.hypot(*away)) < 0.01
+        assert len(changed) > 3
+
+
+class TestStandingDay:
+    WAY = (0, 0, 1 / 30)  # along z, in m a second: a metre an epoch
+
+    def test_the_rows_of_both_tables(self):
+        # Boxes of 20 m round the place, and 9.5 m below it along z, which are their search boxes; then none.
+        x, y, z = long_day.PLACE
+        boxes = [box_at((x, y, z + off), (20, 20, 20)).replace("epoch 1 ", f"epoch {k} ") for k, off in ((1, 0), (2, -9.5))]
+        lost = box_at((x, y, z - 9.5), (20, 20, 20), "out 0\ndone 0\n").replace("epoch 1 ", "epoch 3 ")
+        with written(log=HEAD + "".join(boxes)) as (log,):
+            row, held = standing_day.standing_row("`solve`", log, 1.25)
+        cells = row.split(" | ")
+        assert (cells[0], cells[3], cells[4], held) == ("| `solve`", "0", "2", False)
+        with written(log=HEAD + "".join(boxes) + lost) as (log,):
+            row = standing_day.creeping_row(log, 1000 / 30, self.WAY)
+        # Up to z + 0.5 m the second box goes, where the receiver has come to z + 1 m.
+        assert row.startswith("| 33.3333 mm/s | 2, behind 1.0 m | 3, behind 2.0 m | ")
 
 
 class TestBench:

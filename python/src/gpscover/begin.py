@@ -35,7 +35,7 @@ from gpscover.errors import Error
 from gpscover.files import prepared
 from gpscover.geodesy import Vector, geodetic
 from gpscover.log import PathLike, epochs
-from gpscover.observations import file_epochs
+from gpscover.observations import file_epochs, types_of
 from gpscover.program import home
 from gpscover.region import hull_of, region_or_none
 from gpscover.runs import check, solve
@@ -61,15 +61,12 @@ class Header:
 
 def header_of(path: PathLike) -> Header:
     """The header of an observation file."""
-    codes: list[str] = []
-    place, system = None, ""
+    codes = [it for it in types_of(path).get("G", []) if it.startswith("C1")]
+    place = None
     with open(path, encoding="ascii", errors="replace") as file:
         for line in file:
             label = line[60:].strip()
-            if label == "SYS / # / OBS TYPES":
-                system = line[0].strip() or system
-                codes += [it for it in line[7:58].split() if system == "G" and it.startswith("C1")]
-            elif label == "APPROX POSITION XYZ":
+            if label == "APPROX POSITION XYZ":
                 x, y, z = (measure(word) for word in line[:42].split())
                 place = (x, y, z)
             elif label == "END OF HEADER":
