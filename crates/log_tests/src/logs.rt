@@ -74,7 +74,7 @@ const EDGE: &str = "edge 0 -1400000 1400000";
 
 /// Texts in place of one in the log, and where its first fault is then, by line and kind; or twice
 /// 0.
-const CHANGES: [(&str, &str, u32, u8); 58] = [
+static CHANGES: [(&str, &str, u32, u8); 58] = [
     ("done 0", "done 0", 0, 0),
     (EDGE, "out 0\nin 0 0 -1 1\nsplit 400000 2", 0, 0),
     ("sat G01", "skip G01 6 20\nsat G01", 0, 0),
@@ -142,7 +142,7 @@ const CHANGES: [(&str, &str, u32, u8); 58] = [
 
 #[test]
 fn each_changed_log_is_refused_at_its_first_fault(rt: HostRuntime) -> Result<(), Fail> {
-    for (old, new, line, kind) in CHANGES {
+    for &(old, new, line, kind) in &CHANGES {
         let text = changed(rt.alloc(), LOG, old, new)?;
         assert_eq!(rt; fault(rt.alloc(), &text), (line, kind), "at {new}");
     }
@@ -155,50 +155,57 @@ fn rows_of_log() -> &'static str {
     rows
 }
 
+const ROOT: &str = "root -1000000 -900000 -900000 1000000 900000 900000\n";
+
+/// The same of the text of rows.
+static ROW_CHANGES: [(&str, &str, u32, u8); 19] = [
+    (ROOT, ROOT, 0, 0),
+    // A block of few has less than q + 4, the block of an epoch at least as many.
+    ("rules 0", "rules 1", 3, 5),
+    ("4\nsat", "5\nsat", 3, 5),
+    ("4\nsat", "3\nsat", 3, 5),
+    ("sat G04", "sat G03", 7, 5),
+    ("sat G01", "skip G04 1\nsat G01", 8, 5),
+    ("epoch 1", "few 1 0 0\nepoch 1", 4, 5),
+    ("epoch 1", "few 1 0 0\nepoch 2", 0, 0),
+    ("epoch", "few 1 0 4\nepoch", 3, 5),
+    (
+        "epoch 1",
+        "few 1 0 0\nskip G01 1\nskip G01 2\nepoch 2",
+        5,
+        5,
+    ),
+    ("gpscover 1", "gpscover 2", 1, 1),
+    ("gpscover 1", "gpscover 3", 0, 0),
+    ("gpscover 1", "gpscover 4", 1, 1),
+    ("root", "cut 0 0 5\nroot", 8, 2),
+    (ROOT, "root 0 0 0 0 0 0\ncut 0 0 5\n", 9, 2),
+    (ROOT, "root 0 0 0 0 0 0\nsplit 0 0\n", 9, 2),
+    (ROOT, "root 0 0 0 0 0 0\ndone 0\n", 9, 2),
+    (ROOT, "root 0 0 0 0 0 0", 8, 4),
+    (ROOT, "", 8, 4),
+];
+
 #[test]
 fn each_changed_text_of_rows_is_refused_at_its_first_fault(rt: HostRuntime) -> Result<(), Fail> {
-    let root = "root -1000000 -900000 -900000 1000000 900000 900000\n";
-    for (old, new, line, kind) in [
-        (root, root, 0, 0),
-        // A block of few has less than q + 4, the block of an epoch at least as many.
-        ("rules 0", "rules 1", 3, 5),
-        ("4\nsat", "5\nsat", 3, 5),
-        ("4\nsat", "3\nsat", 3, 5),
-        ("sat G04", "sat G03", 7, 5),
-        ("sat G01", "skip G04 1\nsat G01", 8, 5),
-        ("epoch 1", "few 1 0 0\nepoch 1", 4, 5),
-        ("epoch 1", "few 1 0 0\nepoch 2", 0, 0),
-        ("epoch", "few 1 0 4\nepoch", 3, 5),
-        (
-            "epoch 1",
-            "few 1 0 0\nskip G01 1\nskip G01 2\nepoch 2",
-            5,
-            5,
-        ),
-        ("gpscover 1", "gpscover 2", 1, 1),
-        ("gpscover 1", "gpscover 3", 0, 0),
-        ("gpscover 1", "gpscover 4", 1, 1),
-        ("root", "cut 0 0 5\nroot", 8, 2),
-        (root, "root 0 0 0 0 0 0\ncut 0 0 5\n", 9, 2),
-        (root, "root 0 0 0 0 0 0\nsplit 0 0\n", 9, 2),
-        (root, "root 0 0 0 0 0 0\ndone 0\n", 9, 2),
-        (root, "root 0 0 0 0 0 0", 8, 4),
-        (root, "", 8, 4),
-    ] {
+    for &(old, new, line, kind) in &ROW_CHANGES {
         let text = changed(rt.alloc(), rows_of_log(), old, new)?;
         assert_eq!(rt; rows_fault(rt.alloc(), &text), (line, kind), "at {new}");
     }
     Ok(())
 }
 
+/// What stands behind a block of too few satellites, and the first fault.
+static LAST_LINES: [(&str, u32, u8); 4] = [
+    ("", 3, 5),
+    ("few 3\n", 5, 3),
+    ("few 3 0 0", 5, 4),
+    ("few 3 0 0\nsat\n", 6, 2),
+];
+
 #[test]
 fn kind_5_yields_to_a_later_line_of_another_kind(rt: HostRuntime) -> Result<(), Fail> {
-    for (last, line, kind) in [
-        ("", 3, 5),
-        ("few 3\n", 5, 3),
-        ("few 3 0 0", 5, 4),
-        ("few 3 0 0\nsat\n", 6, 2),
-    ] {
+    for &(last, line, kind) in &LAST_LINES {
         let mut text = String::new(rt.alloc());
         text.push_str("gpscover 1\nrules 0 0 1000\nepoch 2 0 3\nroot 0 0 0 0 0 0\n")?;
         text.push_str(last)?;
@@ -207,28 +214,31 @@ fn kind_5_yields_to_a_later_line_of_another_kind(rt: HostRuntime) -> Result<(), 
     Ok(())
 }
 
+/// Texts, and their first fault by line and kind, or twice 0.
+static SHORT_TEXTS: [(&str, u32, u8); 10] = [
+    ("", 1, 4),
+    ("gpscove", 1, 1),
+    ("gpscover 1", 1, 4),
+    ("gpscover 1\n", 2, 4),
+    ("gpscover 1\nrules 0 0 1000000\n", 0, 0),
+    (
+        "gpscover 1\nrules 1 0 1000000\nfew 1 1388102400000000000000 4\n",
+        0,
+        0,
+    ),
+    (
+        "gpscover 1\nrules 1 0 1000\nfew 1 0 1\nskip G02 1\nfew 2 1 0\nepoch 3 2 64\nroot 0 0 0 0 0 0\ndone 0\n",
+        0,
+        0,
+    ),
+    ("gpscover 1\nrules 1 0 1000\nfew 1 0 1\nsat G02 1\n", 4, 2),
+    ("gpscover 1\nrules 1 0 1000\nfew 1 0 1\ndone 0\n", 4, 2),
+    ("gpscover 1\nrules 1 0 1000\nfew 1 0 1\nskip G02 1", 4, 4),
+];
+
 #[test]
 fn short_texts(rt: HostRuntime) -> Result<(), Fail> {
-    for (text, line, kind) in [
-        ("", 1, 4),
-        ("gpscove", 1, 1),
-        ("gpscover 1", 1, 4),
-        ("gpscover 1\n", 2, 4),
-        ("gpscover 1\nrules 0 0 1000000\n", 0, 0),
-        (
-            "gpscover 1\nrules 1 0 1000000\nfew 1 1388102400000000000000 4\n",
-            0,
-            0,
-        ),
-        (
-            "gpscover 1\nrules 1 0 1000\nfew 1 0 1\nskip G02 1\nfew 2 1 0\nepoch 3 2 64\nroot 0 0 0 0 0 0\ndone 0\n",
-            0,
-            0,
-        ),
-        ("gpscover 1\nrules 1 0 1000\nfew 1 0 1\nsat G02 1\n", 4, 2),
-        ("gpscover 1\nrules 1 0 1000\nfew 1 0 1\ndone 0\n", 4, 2),
-        ("gpscover 1\nrules 1 0 1000\nfew 1 0 1\nskip G02 1", 4, 4),
-    ] {
+    for &(text, line, kind) in &SHORT_TEXTS {
         assert_eq!(rt; fault(rt.alloc(), text), (line, kind), "at {text}");
     }
     Ok(())
@@ -360,9 +370,12 @@ fn a_log_that_was_read_is_written_as_it_was(rt: HostRuntime) -> Result<(), Fail>
     Ok(())
 }
 
+/// First lines, their version, and whether pairs are tested.
+static FIRST_LINES: [(&str, u8, bool); 2] = [("gpscover 1", 1, false), ("gpscover 3", 3, true)];
+
 #[test]
 fn the_first_line_tells_whether_pairs_are_tested(rt: HostRuntime) -> Result<(), Fail> {
-    for (first, version, pairs) in [("gpscover 1", 1, false), ("gpscover 3", 3, true)] {
+    for &(first, version, pairs) in &FIRST_LINES {
         let text = changed(rt.alloc(), LOG, "gpscover 1", first)?;
         let rows = changed(rt.alloc(), rows_of_log(), "gpscover 1", first)?;
         if text.len() > 4_000_000_000 || rows.len() > 4_000_000_000 {

@@ -41,22 +41,34 @@ fn holds(x: Exact, n: i128) -> bool {
     x.lo <= n && n <= x.hi
 }
 
+/// The motion is held, and little more.
+fn has_motion(rt: &impl Abort, el: &Elements, n: i128) {
+    let held = mean_motion(el);
+    assert!(rt; holds(held, n), "the motion {n}");
+    assert!(rt;
+        held.hi <= held.lo.saturating_add(4_096),
+        "the width at {n}"
+    );
+}
+
 #[test]
 fn mean_motions(rt: HostRuntime) {
     // The whole-number root of mu * 10^116 / S^6 by Python's `isqrt`, and the correction.
-    let rows = [
-        (usual(), 1_458_601_974_545_781_106 + 45_000_000_000_000),
-        (greatest(), 694_443_812_895_392_934 + 1_000_000_000_000_000),
-        (least(), 1_597_198_547_457_391_096 - 1_000_000_000_000_000),
-    ];
-    for (el, n) in rows {
-        let held = mean_motion(&el);
-        assert!(rt; holds(held, n), "the motion {n}");
-        assert!(rt;
-            held.hi <= held.lo.saturating_add(4_096),
-            "the width at {n}"
-        );
-    }
+    has_motion(
+        &rt,
+        &usual(),
+        1_458_601_974_545_781_106 + 45_000_000_000_000,
+    );
+    has_motion(
+        &rt,
+        &greatest(),
+        694_443_812_895_392_934 + 1_000_000_000_000_000,
+    );
+    has_motion(
+        &rt,
+        &least(),
+        1_597_198_547_457_391_096 - 1_000_000_000_000_000,
+    );
 }
 
 #[test]
@@ -69,56 +81,43 @@ fn group_delay_of_one_frequency(rt: HostRuntime) {
     assert!(rt; holds(dual.t, 0), "the ephemeris time");
 }
 
-#[test]
-fn offsets_of_a_whole_chain(rt: HostRuntime) {
-    // The equations in real numbers of 60 digits, Kepler's by 200 rounds of E = M + e sin E
-    // (Python's mpmath), rounded: the time since the ephemeris time, dt, and t - toe.
-    let rows = [
-        (
-            usual(),
-            3_600_123_456_789_012,
-            true,
-            -4_123_661_644_237,
-            3_600_123_869_155_176,
-        ),
-        (
-            usual(),
-            3_600_123_456_789_012,
-            false,
-            -4_123_773_402_946,
-            3_600_123_869_166_352,
-        ),
-        (
-            usual(),
-            -7_199_999_999_999_999,
-            true,
-            -4_123_310_441_988,
-            -7_199_999_587_668_955,
-        ),
-        (
-            greatest(),
-            REACH,
-            true,
-            232_010_820_459_732,
-            14_499_976_798_917_954,
-        ),
-        (
-            greatest(),
-            REACH,
-            false,
-            232_110_820_459_731,
-            14_499_976_788_917_954,
-        ),
-        (
-            least(),
-            REACH,
-            true,
-            -168_840_477_604_679,
-            14_500_016_884_047_760,
-        ),
-    ];
-    for (el, after, single, dt, t) in rows {
-        let clock = corrected(&rt, &el, after, single);
+/// The time since the ephemeris time, whether one frequency was received, dt, and t - toe.
+type Offset = (i128, bool, i128, i128);
+
+// The equations in real numbers of 60 digits, Kepler's by 200 rounds of E = M + e sin E (Python's
+// mpmath), rounded.
+static USUAL: [Offset; 3] = [
+    (
+        3_600_123_456_789_012,
+        true,
+        -4_123_661_644_237,
+        3_600_123_869_155_176,
+    ),
+    (
+        3_600_123_456_789_012,
+        false,
+        -4_123_773_402_946,
+        3_600_123_869_166_352,
+    ),
+    (
+        -7_199_999_999_999_999,
+        true,
+        -4_123_310_441_988,
+        -7_199_999_587_668_955,
+    ),
+];
+
+static GREATEST: [Offset; 2] = [
+    (REACH, true, 232_010_820_459_732, 14_499_976_798_917_954),
+    (REACH, false, 232_110_820_459_731, 14_499_976_788_917_954),
+];
+
+static LEAST: [Offset; 1] = [(REACH, true, -168_840_477_604_679, 14_500_016_884_047_760)];
+
+/// The offsets and times are held, and little more.
+fn has_offsets(rt: &impl Abort, el: &Elements, rows: &[Offset]) {
+    for &(after, single, dt, t) in rows {
+        let clock = corrected(rt, el, after, single);
         assert!(rt; holds(clock.dt, dt), "the offset {dt}");
         assert!(rt; holds(clock.t, t), "the time {t}");
         assert!(rt;
@@ -130,4 +129,11 @@ fn offsets_of_a_whole_chain(rt: HostRuntime) {
             "the width of {t}"
         );
     }
+}
+
+#[test]
+fn offsets_of_a_whole_chain(rt: HostRuntime) {
+    has_offsets(&rt, &usual(), &USUAL);
+    has_offsets(&rt, &greatest(), &GREATEST);
+    has_offsets(&rt, &least(), &LEAST);
 }

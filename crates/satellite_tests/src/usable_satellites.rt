@@ -212,69 +212,76 @@ fn judged_in(
     Ok(judge_satellite(&seen, &epoch, &nav, &settings, &None, root))
 }
 
+/// The code of G01, its records, and the test that fails first with the field that it names.
+static SKIPPED: [(Option<i64>, &[Ephemeris], u8, u8); 6] = [
+    (None, &[], 1, 0),
+    (Some(14_999_999_999), &[], 2, 0),
+    (Some(15_000_000_000), &[], 3, 0),
+    (Some(15_000_000_000), &[UNHEALTHY], 4, 0),
+    (Some(15_000_000_000), &[OLD], 5, 0),
+    (Some(15_000_000_000), &[OLD, ECCENTRIC], 6, 8),
+];
+
 #[test]
 fn the_first_test_that_fails(rt: HostRuntime) -> Result<(), Fail> {
-    let alloc = rt.alloc();
-    for (told, number, field) in [
-        (judged(alloc, None, &[])?, 1, 0),
-        (judged(alloc, Some(14_999_999_999), &[])?, 2, 0),
-        (judged(alloc, Some(15_000_000_000), &[])?, 3, 0),
-        (judged(alloc, Some(15_000_000_000), &[UNHEALTHY])?, 4, 0),
-        (judged(alloc, Some(15_000_000_000), &[OLD])?, 5, 0),
-        (
-            judged(alloc, Some(15_000_000_000), &[OLD, ECCENTRIC])?,
-            6,
-            8,
-        ),
-    ] {
+    for &(code, records, number, field) in &SKIPPED {
+        let told = judged(rt.alloc(), code, records)?;
         assert_eq!(rt; told, Judgement::Skipped(Skip { number, field }));
     }
     Ok(())
 }
 
+/// 15,000 km, in mm.
+const CODE: Option<i64> = Some(15_000_000_000);
+
+/// The same of this code, in the higher box or the lower one.
+fn judged_over(
+    alloc: Global,
+    records: &[Ephemeris],
+    settings: &str,
+    is_high: bool,
+) -> Result<Judgement, Fail> {
+    if is_high {
+        return judged_in(alloc, CODE, records, settings, &HIGH);
+    }
+    judged_in(alloc, CODE, records, settings, &LOW)
+}
+
+/// A record, settings, whether the box is the higher one, and the test that fails, if one does.
+static MAPPING: [(&[Ephemeris], &str, bool, Option<u8>); 6] = [
+    (&[FRESH], MAPPED, false, Some(7)),
+    // By the delay at the vertical.
+    (&[FRESH], SHELL, false, Some(7)),
+    (&[FRESH], SHELL, true, None),
+    (&[FRESH], MAPPED, true, None),
+    (&[FRESH], SETTINGS, false, None),
+    (&[OLD], MAPPED, false, Some(5)),
+];
+
 #[test]
 fn a_bound_is_mapped_from_high_places_alone(rt: HostRuntime) -> Result<(), Fail> {
-    let alloc = rt.alloc();
-    let code = Some(15_000_000_000);
-    let low = judged_in(alloc, code, &[FRESH], MAPPED, &LOW)?;
-    assert_eq!(rt;
-        low,
-        Judgement::Skipped(Skip {
-            number: 7,
-            field: 0
-        })
-    );
-    let below = judged_in(alloc, code, &[FRESH], SHELL, &LOW)?;
-    assert_eq!(rt; below, low, "by the delay at the vertical");
-    for usable in [
-        judged_in(alloc, code, &[FRESH], SHELL, &HIGH)?,
-        judged_in(alloc, code, &[FRESH], MAPPED, &HIGH)?,
-        judged_in(alloc, code, &[FRESH], SETTINGS, &LOW)?,
-    ] {
-        assert!(rt; matches!(usable, Judgement::Usable { .. }), "usable");
+    for &(records, settings, is_high, skipped) in &MAPPING {
+        let told = judged_over(rt.alloc(), records, settings, is_high)?;
+        match skipped {
+            Some(number) => {
+                assert_eq!(rt; told, Judgement::Skipped(Skip { number, field: 0 }));
+            }
+            None => assert!(rt; matches!(told, Judgement::Usable { .. }), "usable"),
+        }
     }
-    let old = judged_in(alloc, code, &[OLD], MAPPED, &LOW)?;
-    assert_eq!(rt;
-        old,
-        Judgement::Skipped(Skip {
-            number: 5,
-            field: 0
-        })
-    );
     Ok(())
 }
 
+/// Two records that are as near, and the offset of the later one's clock in 10^-16 s.
+static AS_NEAR: [(&[Ephemeris], i128); 2] = [
+    (&[FRESH, AHEAD], 100_000_000_000),
+    (&[AHEAD, FRESH], 0),
+];
+
 #[test]
 fn of_two_records_as_near_the_later(rt: HostRuntime) -> Result<(), Fail> {
-    // The offset of the clock is in 10^-16 s.
-    let alloc = rt.alloc();
-    for (told, offset) in [
-        (
-            judged(alloc, Some(15_000_000_000), &[FRESH, AHEAD])?,
-            100_000_000_000,
-        ),
-        (judged(alloc, Some(15_000_000_000), &[AHEAD, FRESH])?, 0),
-    ] {
+    for &(records, offset) in &AS_NEAR {
+        let told = judged(rt.alloc(), CODE, records)?;
         let Judgement::Usable { codes, elements } = told else {
             return Err(Fail::from("skipped"));
         };
@@ -289,13 +296,13 @@ fn of_two_records_as_near_the_later(rt: HostRuntime) -> Result<(), Fail> {
     Ok(())
 }
 
+/// A record that is farther than an unfit one, in both orders.
+static FARTHER: [&[Ephemeris]; 2] = [&[AHEAD, NEAR_ECCENTRIC], &[NEAR_ECCENTRIC, AHEAD]];
+
 #[test]
 fn a_farther_record_where_the_nearest_is_unfit(rt: HostRuntime) -> Result<(), Fail> {
-    let alloc = rt.alloc();
-    for told in [
-        judged(alloc, Some(15_000_000_000), &[AHEAD, NEAR_ECCENTRIC])?,
-        judged(alloc, Some(15_000_000_000), &[NEAR_ECCENTRIC, AHEAD])?,
-    ] {
+    for &records in &FARTHER {
+        let told = judged(rt.alloc(), CODE, records)?;
         let Judgement::Usable { elements, .. } = told else {
             return Err(Fail::from("skipped"));
         };
