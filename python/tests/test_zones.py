@@ -20,7 +20,7 @@ from pathlib import Path
 import pytest
 from made_logs import EXAMPLES, RECORDED, ended, ended_with
 
-from gpscover import bounded, shapes, zones
+from gpscover import bounded, polygons, shapes, zones
 from gpscover.geodesy import dot, earth_fixed
 from gpscover.log import Box
 from gpscover.log import epochs as read_epochs
@@ -250,10 +250,10 @@ class TestAreas:
         draw, fewer = random.Random(9), 0
         for number in range(200):
             flat = self.drawn_flat(draw)
-            thirds, parts = shapes.triangles(flat), shapes.convex_parts(flat)
+            thirds, parts = polygons.triangles(flat), polygons.convex_parts(flat)
             drawn = [shapely.Polygon([flat[i] for i in part]) for part in parts]
-            assert all(shapes.is_convex([flat[i] for i in part]) for part in parts if len(part) > 3), number
-            assert all(len(part) <= shapes.MOST_PART_CORNERS for part in parts)
+            assert all(polygons.is_convex([flat[i] for i in part]) for part in parts if len(part) > 3), number
+            assert all(len(part) <= polygons.MOST_PART_CORNERS for part in parts)
             whole = shapely.Polygon(flat)
             assert sum(part.area for part in drawn) == pytest.approx(whole.area)
             assert union(drawn).symmetric_difference(whole).area < 1e-6 * whole.area
