@@ -20,7 +20,7 @@ from pathlib import Path
 import pytest
 from made_logs import EXAMPLES, RECORDED, ended, ended_with
 
-from gpscover import bounded, shapes, zones
+from gpscover import bounded, polygons, shapes, zones
 from gpscover.geodesy import dot, earth_fixed
 from gpscover.log import Box
 from gpscover.log import epochs as read_epochs
@@ -30,6 +30,12 @@ from gpscover.region import hull_of
 DRAWN = 1000
 PLACES = RECORDED / "cres_2008.places"
 
+
+# Where the road of the vehicle turns, and areas beside it.
+LATITUDE, LONGITUDE = 35.872719, 138.3872534
+SPIKES = ((-60, -200), (-300, -150), (-90, -400), (-300, -450), (-60, -650), (-450, -700), (-450, -100))
+NEEDLES = ((-50, -30), (-400, -60), (-60, -400), (-300, -420), (-420, -30))
+NOTCH = ((-45, 0), (-45, -500), (-250, -500), (-250, -300), (-110, -260), (-250, -220), (-250, 0))
 
 NONE = "there is no (Polygon|LineString) in it, or not all of its places are numbers"
 THREE = "a: an area has three corners or more"
@@ -230,7 +236,60 @@ class TestAreas:
         assert len(sides) == 6
         with pytest.raises(shapes.ShapeError):
             shapes.area_lines("a", [*square, (47.0005, 8.0005)], 0.0, 20.0, "inside")
-        assert len(prisms(shapes.area_lines("a", [*square, (47.0005, 8.0005)], 0.0, 20.0, "outside"))) == 3
+        assert len(prisms(shapes.area_lines("a", [*square, (47.0005, 8.0005)], 0.0, 20.0, "outside"))) == 2
+
+    def drawn_flat(self, draw):
+        """A polygon in a plane, star-shaped, in m."""
+        count = draw.randint(5, 20)
+        turns = [2 * math.pi * (k + draw.uniform(0, 0.9)) / count for k in range(count)]
+        return [(f * math.cos(t), f * math.sin(t)) for t in turns for f in [draw.uniform(10, 200)]]
+
+    def test_convex_parts_are_the_polygon_without_overlaps(self):
+        shapely = pytest.importorskip("shapely.geometry")
+        union = pytest.importorskip("shapely.ops").unary_union
+        draw, fewer = random.Random(9), 0
+        for number in range(200):
+            flat = self.drawn_flat(draw)
+            thirds, parts = polygons.triangles(flat), polygons.convex_parts(flat)
+            drawn = [shapely.Polygon([flat[i] for i in part]) for part in parts]
+            assert all(polygons.is_convex([flat[i] for i in part]) for part in parts if len(part) > 3), number
+            assert all(len(part) <= polygons.MOST_PART_CORNERS for part in parts)
+            whole = shapely.Polygon(flat)
+            assert sum(part.area for part in drawn) == pytest.approx(whole.area)
+            assert union(drawn).symmetric_difference(whole).area < 1e-6 * whole.area
+            fewer += len(parts) < len(thirds)
+        assert fewer > 100
+
+    def test_a_part_ends_at_its_own_corners(self):
+        """A V, whose middle lies between its arms: 25 m from both, so no part reaches there."""
+        vee = [(47.0, 8.0), (47.002, 8.001), (47.0, 8.002), (47.0, 8.0018), (47.0016, 8.001), (47.0, 8.0002)]
+        parts = prisms(shapes.area_lines("a", vee, 100.0, 130.0, "outside"))
+        assert len(parts) == 2
+        middle = [math.radians(sum(p[k] for p in vee) / len(vee)) for k in (0, 1)]
+        for height in (100.0, 115.0, 130.0):
+            assert not any(holds(part, um(earth_fixed(*middle, height))) for part in parts)
+            for latitude, longitude in vee:
+                at = um(earth_fixed(math.radians(latitude), math.radians(longitude), height))
+                assert any(holds(part, at) for part in parts)
+
+    def test_bevels_part_boxes_from_sharp_edges_and_hold_what_the_faces_do(self):
+        draw, gained = random.Random(10), 0
+        for number in range(100):
+            ground = shapes.Ground(draw.uniform(-1.4, 1.4), draw.uniform(-3, 3))
+            far, wide = draw.uniform(100, 300), draw.uniform(5, 30)
+            flat = [(0.0, 0.0), (far, -wide), (far, wide)]
+            faces, points = shapes.upright(ground, [[(*p, h) for p in flat] for h in (-80.0, 80.0)], -80.0, 80.0)
+            more = shapes.bevels(faces[:3], 11)
+            assert 3 <= len(more) <= 11
+            sides, with_more = shapes.grown(faces, points), shapes.grown([*faces, *more], points)
+            assert with_more[:5] == sides
+            assert all(holds(with_more, um(point)) for point in points)
+            middle = ground.point((-draw.uniform(5, 40), draw.uniform(-10, 10), draw.uniform(-20, 20)))
+            box = tuple(tuple(round((p + sign * 5) * shapes.UM) for p in middle) for sign in (-1, 1))
+            before, after = (answer(s, [box]) for s in (sides, with_more))
+            assert (before, after) in (("open", "open"), ("open", "outside"), ("outside", "outside")), number
+            gained += before != after
+        assert gained > 30
 
 
 class TestLanes:
@@ -406,6 +465,31 @@ class TestFiles:
                     assert (status, out) == (1, "")
                     assert re.search(f"^gpslog zones: .*{told}.*\n$", err)
 
+    def test_what_guard_would_not_read_is_refused_in_one_line(self):
+        at = "--place", "a,47,8,400,20,10"
+        many = [word for k in range(120) for word in ("--place", f"a{k},47,8,400,20,10")]
+        for words, told in (
+            ((*at, *at), "a: 2 zones or directions have this name"),
+            (("--place", "r-e,47,8,400,20,10", "--reach", "r,47,8"), "r-e: 2 zones or directions have this name"),
+            (many, "120 zones and directions take [0-9]+ bytes, and a file has at most 65536: make several files"),
+        ):
+            status, out, err = ended(shapes, "--for", "outside", *words)
+            assert (status, out) == (1, "")
+            assert re.search(f"^gpslog zones: {told}\n$", err)
+        assert said("--for", "outside", *many[:160])[0] == "gpszones 2"
+
+    def test_a_file_that_is_too_long_is_refused(self):
+        first = "gpszones 1\n" + "".join(f"zone a{k:04} 0 0 0 1 1 1\n" for k in range(2848))
+        with tempfile.TemporaryDirectory() as folder:
+            path = Path(folder) / "zones"
+            for name in ("bbb", "bbbb"):
+                path.write_text(f"{first}zone {name} 0 0 0 1 1 1\n", encoding="utf-8")
+                if path.stat().st_size == 65_536:
+                    assert len(zones.read_zones(path)[1]) == 2849
+                    continue
+                with pytest.raises(zones.ZonesError, match="it has 65537 bytes, and a file of zones has at most 65536"):
+                    zones.read_zones(path)
+
     def test_numbers_that_are_none_or_too_large_are_refused_among_the_words(self):
         for word in ("nan", "inf", "-inf", "1e400", "1e16", "x", ""):
             for option, fields in (
@@ -522,6 +606,31 @@ class TestGuards:
             )
             found = [line.split(" zone ")[1] for line in self.expect_lines(path, log, options)]
             assert found == ["far outside", "all inside"] * 21
+
+    def test_areas_that_are_not_convex_are_open_where_they_are_met(self):
+        """Sharp areas beside the road, in m east and north of its corner, and in how many epochs a region meets them."""
+        for ring, met in (SPIKES, 0), (NEEDLES, 0), (NOTCH, 2):
+            area = self.folder / "area.txt"
+            area.write_text("".join(f"{LATITUDE + n / 110950} {LONGITUDE + e / 90208}\n" for e, n in ring))
+            path = self.folder / "area.zones"
+            made = said("--for", "outside", "--area", f"a,{area},800,1150")
+            path.write_text("".join(line + "\n" for line in made), encoding="utf-8")
+            found = self.expect_lines(path, self.folder / "solve.log", [])
+            told = [line.split() for line in found if line.startswith("epoch")]
+            assert len({words[1] for words in told if words[-1] != "outside"}) == met
+
+    def test_a_part_of_a_drive_is_told_from_the_log_of_that_part(self):
+        """With --from and --to the log is that of these epochs: a whole one is denied, as `check` denies it."""
+        path, part = self.folder / "part.zones", self.folder / "part.log"
+        path.write_text("gpszones 1\nzone far 0 0 0 1 1 1\n", encoding="utf-8")
+        options = ["--from", "8", "--to", "10"]
+        subprocess.run([self.program, "solve", *self.files, part, *options], check=True, stdout=subprocess.DEVNULL)
+        assert self.expect_lines(path, part, options) == [f"epoch {k} zone far outside" for k in (8, 9, 10)]
+        for log, words in ((self.folder / "solve.log", options), (part, [])):
+            ran = subprocess.run(
+                [self.program, "guard", *self.files, path, log, *words], capture_output=True, text=True
+            )
+            assert (ran.returncode, ran.stdout, ran.stderr) == (1, "no 51 EpochDiffers line 3\n", "")
 
     def test_lanes_areas_and_limits_of_the_vehicle(self):
         lane = self.folder / "lane.txt"

@@ -24,11 +24,15 @@ where the answer is `outside` no fitting point lies in the zone as it was given.
 shrinks: where it is `inside` each fitting point lies in it. Growing or shrinking takes a millimetre
 for the arithmetic of this script, and what the curve of the ellipsoid, the round of a place (3.5 %
 of its radius) and directions of whole numbers cost. For `outside` a polygon that isn't convex is
-cut into triangles NAME-1, NAME-2, ..; for `inside` it is refused, as is one of more than 14
-corners: each of its points would have to lie in one prism. A reach is told in um times the length
-of its direction, which is 2^20 to within a millionth.
+cut into convex parts NAME-1, NAME-2, .. with sides more at their sharp edges; for `inside` it is
+refused, as is one of more than 14 corners: each of its points would have to lie in one prism. A
+reach is told in um times the length of its direction, which is 2^20 to within a millionth.
 
-Exit status: 0; 1 where a file can't be read, or a shape makes no zone; 2 for a wrong command line.
+What `guard` wouldn't read isn't printed: two zones or directions of one name, more than 65,536
+bytes, which is room for some 90 places or 200 legs.
+
+Exit status: 0; 1 where a file can't be read, a shape makes no zone, or `guard` wouldn't read the
+file; 2 for a wrong command line.
 """
 
 from __future__ import annotations
@@ -39,29 +43,26 @@ import json
 import math
 import re
 import xml.etree.ElementTree
+from collections import Counter
 from collections.abc import Callable, Iterable, Sequence
 from fractions import Fraction
 from pathlib import Path
 from typing import Any
 
 from gpscover.command import Command, measure
-from gpscover.errors import Error
-from gpscover.geodesy import Frame, Vector, cross, earth_fixed, geodetic, local_axes, whole_product
+from gpscover.geodesy import Frame, Vector, cross, dot, earth_fixed, geodetic, local_axes, whole_product
 from gpscover.log import UM_PER_M, PathLike, epochs
-from gpscover.outline import Flat
 from gpscover.places import Meetings
-from gpscover.zones import GREATEST, LONGEST, Corners, Side, Whole, Zone
+from gpscover.polygons import ShapeError, convex_parts, is_convex, turn_of
+from gpscover.zones import GREATEST, LONGEST, MOST_BYTES, Corners, Side, Whole, Zone
 
 MOST_SIDES = 16
 LONGEST_NAME = 16
 ROUND_SIDES = 12
 UM = 10**6
+SHORTEST = 1e-6  # below it a sum of two directions of unit length has no direction
 ARITHMETIC_UM = 1000  # more than the rounding of the numbers of this script, for a point near the earth
 WIDEST_M = 50_000
-
-
-class ShapeError(Error):
-    """A shape of which no zone is made."""
 
 
 class Face:
@@ -99,11 +100,11 @@ def length_above(a: Whole) -> int:
 
 
 def grown(faces: list[Face], points: list[Vector]) -> list[Side]:
-    """Sides (A, H) whose prism holds all points."""
+    """Sides (A, H) whose prism holds all points. Each holds those on its face, too."""
     sides = []
     for face in faces:
         a = whole(face.out)
-        most = max(product(a, in_um(point)) for point in points)
+        most = max(product(a, in_um(point)) for point in (*points, *face.points))
         sides.append((a, math.ceil(most) + ARITHMETIC_UM * length_above(a)))
     return sides
 
@@ -190,7 +191,10 @@ class Ground(Frame):
 
 def upright(ground: Ground, rings: list[list[Vector]], low: float, high: float) -> Shape:
     """Faces and points of an upright shape: rings of (east, north, up) below and above,
-    counterclockwise, and the heights that the middle has between them."""
+    counterclockwise, and the heights that the middle has between them.
+
+    The middle counts for the heights alone: a part of an area may lie beside it.
+    """
     below, above = ([ground.point(p) for p in ring] for ring in rings)
     middle_low, middle_high = (ground.point((0.0, 0.0, height)) for height in (low, high))
     faces = []
@@ -205,7 +209,25 @@ def upright(ground: Ground, rings: list[list[Vector]], low: float, high: float) 
         )
     faces.append(Face(scaled(-1, ground.axes[2]), [*below, middle_low]))
     faces.append(Face(ground.axes[2], [*above, middle_high]))
-    return faces, [*below, *above, middle_low, middle_high]
+    return faces, [*below, *above]
+
+
+def blends(a: Vector, b: Vector) -> list[Vector]:
+    """The directions between two that have nothing along an axis, at which the two differ in sign."""
+    sums = ([abs(b[axis]) * p + abs(a[axis]) * q for p, q in zip(a, b)] for axis in range(3) if a[axis] * b[axis] < 0)
+    return [unit(blend) for blend in sums if math.hypot(*blend) > SHORTEST]
+
+
+def bevels(around: list[Face], most: int) -> list[Face]:
+    """At most so many faces that touch a shape at the edges between the faces round it, the sharpest edges first.
+
+    They take nothing off it. But a box beside a sharp edge may lie beyond one of them and beyond no other face: those
+    between two faces that have nothing along an axis are what else parts a box from an edge (S. Gottschalk et al.,
+    OBBTree, 1996).
+    """
+    edges = zip([around[-1], *around], around)
+    found = [(dot(a.out, b.out), Face(out, [])) for a, b in edges for out in blends(a.out, b.out)]
+    return [face for _, face in sorted(found, key=lambda pair: pair[0])[:most]]
 
 
 def place_lines(name: str, place: Sequence[float], radius: float, up: float, purpose: str) -> list[str]:
@@ -249,50 +271,16 @@ def area_lines(name: str, ring: list[Vector], low: float, high: float, purpose: 
     whole_ring = is_convex(flat) and len(around) <= MOST_SIDES - 2
     if not whole_ring and purpose == "inside":
         raise ShapeError(f"{name}: for inside it must be convex, with at most {MOST_SIDES - 2} corners")
-    parts = [tuple(range(len(around)))] if whole_ring else triangles(flat)
+    parts = [tuple(range(len(around)))] if whole_ring else convex_parts(flat)
     written: list[str] = []
     for number, part in enumerate(parts, 1):
         rings = [[ground.local(*around[i], height) for i in part] for height in (low, high)]
-        written += prism(name if whole_ring else f"{name}-{number}", *upright(ground, rings, low, high), purpose)
+        faces, points = upright(ground, rings, low, high)
+        if whole_ring:
+            return prism(name, faces, points, purpose)
+        faces += bevels(faces[: len(part)], MOST_SIDES - len(faces))
+        written += prism(f"{name}-{number}", faces, points, purpose)
     return written
-
-
-def turn_of(flat: list[Flat]) -> float:
-    """Twice the area of a polygon, which is above 0 where it goes counterclockwise."""
-    return sum(p[0] * q[1] - p[1] * q[0] for p, q in zip(flat, flat[1:] + flat[:1]))
-
-
-def turns_left(p: Flat, q: Flat, r: Flat) -> float:
-    """How far the way from p over q to r turns left."""
-    return (q[0] - p[0]) * (r[1] - q[1]) - (q[1] - p[1]) * (r[0] - q[0])
-
-
-def is_convex(flat: list[Flat]) -> bool:
-    """Whether a counterclockwise polygon turns left at each corner."""
-    count = len(flat)
-    return all(turns_left(flat[i - 2], flat[i - 1], flat[i]) > 0 for i in range(count))
-
-
-def triangles(flat: list[Flat]) -> list[tuple[int, ...]]:
-    """A counterclockwise polygon cut into triangles, as the places of their corners: one ear after another."""
-    left = list(range(len(flat)))
-    found: list[tuple[int, ...]] = []
-    while len(left) > 3:
-        ear = next((k for k in range(len(left)) if is_ear(flat, left, k)), None)
-        if ear is None:
-            raise ShapeError("its edges cross")
-        found.append((left[ear - 1], left[ear], left[(ear + 1) % len(left)]))
-        del left[ear]
-    return [*found, tuple(left)]
-
-
-def is_ear(flat: list[Flat], left: list[int], k: int) -> bool:
-    """Whether the corner turns left, and no other corner lies in the triangle with its neighbours."""
-    a, b, c = (flat[left[i % len(left)]] for i in (k - 1, k, k + 1))
-    if turns_left(a, b, c) <= 0:
-        return False
-    others = (flat[i] for i in left if flat[i] not in (a, b, c))
-    return not any(turns_left(a, b, p) >= 0 and turns_left(b, c, p) >= 0 and turns_left(c, a, p) >= 0 for p in others)
 
 
 # ---- lanes
@@ -474,9 +462,24 @@ def file_lines(args: argparse.Namespace) -> list[str]:
     return lines
 
 
+def text_of(lines: list[str]) -> str:
+    """The text of a file with these lines. ShapeError where `guard` wouldn't read it."""
+    names = Counter(line.split()[1] for line in lines[1:] if not line.startswith("side "))
+    twice = [name for name, count in names.items() if count > 1]
+    if twice:
+        raise ShapeError(f"{twice[0]}: {names[twice[0]]} zones or directions have this name")
+    text = "".join(line + "\n" for line in lines)
+    if len(text) > MOST_BYTES:
+        raise ShapeError(
+            f"{len(names)} zones and directions take {len(text)} bytes, and a file has at most {MOST_BYTES}: "
+            "make several files"
+        )
+    return text
+
+
 def run(args: argparse.Namespace) -> int:
     """Prints the file. The status."""
-    print(*file_lines(args), sep="\n")
+    print(text_of(file_lines(args)), end="")
     return 0
 
 

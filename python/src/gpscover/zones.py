@@ -39,10 +39,11 @@ ANSWERS = "outside", "inside", "open"
 FARTHEST = 10**13
 LONGEST = 2**20
 GREATEST = 10**20
+MOST_BYTES = 65_536
 
 
 class ZonesError(Error):
-    """A text that isn't one of zones: its first line that doesn't fit."""
+    """A text that isn't one of zones: its first line that doesn't fit, or its size."""
 
 
 @dataclass
@@ -251,9 +252,12 @@ class Reader:
 def read_zones(path: PathLike) -> tuple[bool, list[Thing]]:
     """Whether a file is of the second form, and its zones and directions.
 
-    ZonesError where a line doesn't fit.
+    ZonesError where a line doesn't fit, or where it has more bytes than `guard` reads.
     """
     lines, number = zone_file(path), 1
+    size = sum(len(line) + 1 for line in lines) - 1
+    if size > MOST_BYTES:
+        raise ZonesError(f"{path}: it has {size} bytes, and a file of zones has at most {MOST_BYTES}")
     try:
         if len(lines) < 2 or lines[0] not in HEADS:
             raise ValueError
