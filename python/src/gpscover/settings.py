@@ -98,8 +98,9 @@ class Settings:
         tables = {"search": keys_of(self.search), "signal": keys_of(self.signal)}
         if self.galileo is not None:
             tables["galileo"] = keys_of(self.galileo)
-        if self.speed is not None:
-            tables["motion"] = {"speed": self.speed} | ({"restart": True} if self.restart else {})
+        motion = {"speed": self.speed, "restart": self.restart or None}
+        if motion := {name: value for name, value in motion.items() if value is not None}:
+            tables["motion"] = motion
         if self.station is not None:
             tables["station"] = keys_of(self.station)
         tables["bounds"] = keys_of(self.bounds)
