@@ -45,11 +45,9 @@ EARTH_M = (6_300_000, 6_500_000)  # from the earth's centre, of a place on it or
 MOST_HALF_MM = 100_000_000
 WIDE = Bounds((-10_000, 10_000), (-10_000, 10_000), (0, 80_000), (0, 30_000))
 LOOK = 16  # splits of an epoch in a first look
-FEWEST, USUAL, WORK = (
-    8,
-    64,
-    160_000,
-)  # splits of an epoch of a long file, of a short one, and of all, which take some minutes
+FEWEST = 8  # splits of an epoch of a long file
+USUAL = 64  # and of a short one
+WORK = 160_000  # splits of all epochs, which take some minutes
 LOW_LATITUDE = 30  # degrees, below which the ionosphere delays more
 
 
