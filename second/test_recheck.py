@@ -643,6 +643,7 @@ def track_cases(folder):
     begun, lost = [first, second], track_block(3, root_line(440, 440), LOSE, MOVED)
     few = ["few 2 895816770999000000000 3"]
     plain, off = track_files(folder, "track"), track_files(folder, "off", moved_codes)
+    anew = track_files(folder, "anew", moved_codes, "[motion]\nspeed = 20000\nrestart = true\n")
     left = track_files(folder, "left", three_left)
     still = track_files(folder, "still", speed="[motion]\nspeed = 0\n")
     for number, (paths, blocks, wanted, *options) in enumerate((
@@ -677,6 +678,12 @@ def track_cases(folder):
             (off, [*begun, lost, track_block(4, root_line(1000, 1000), KEEP)], "no 51 EpochDiffers line 44"),
             (off, [*begun, lost, ["few 4 895816772999000000000 0"]], "no 51 EpochDiffers line 44"),
             (plain, [*begun, track_block(3, root_line(440, 440), LOSE)], "no 58 OutNotShown line 42"),
+            # Behind it a track that restarts has the search box again, and behind an epoch with a box the usual root.
+            (anew, [*begun, lost, track_block(4, root_line(1000, 1000), KEEP)], "yes 3"),
+            (anew, [*begun, lost, fourth], "no 55 RootDiffers line 54"),
+            (anew, [*begun, lost], "no 51 EpochDiffers line 44"),
+            (anew, [*begun, lost], "yes 2", "--to", "3"),
+            (anew, [first, track_block(2, root_line(1000, 1000), KEEP)], "no 55 RootDiffers line 28"),
             # Over an epoch of few satellites the root grows on, and one without boxes ends no track.
             (left, [first, few, third, fourth], "yes 3"),
             (left, [first, few, track_block(3, root_line(420, 420), KEEP), fourth], "no 55 RootDiffers line 29"),
@@ -718,12 +725,18 @@ def speed_cases(folder):
     """(words, status and line) of the table `motion`, with and without `--track`."""
     few = written(folder, "speed.log", "gpscover 1\nrules 1 4096 1000000\nfew 1 1388620800070000000000 1\nskip G02 1\n")
     missing, kind, range_ = "31 Missing motion.speed", "32 WrongKind motion.speed", "33 Outside motion.speed"
+    no_truth, unasked = "32 WrongKind motion.restart", "33 Outside motion.restart"
     for number, (text, moving, plain) in enumerate((
             ("", missing, YES_0), ("[motion]\n", missing, YES_0),
             ("[motion]\nspeed = 0\n", YES_0, YES_0), ("[motion]\nspeed = 1000000\n", YES_0, YES_0),
             ("[motion]\nspeed = 1000001\n", range_, range_), ("[motion]\nspeed = -1\n", range_, range_),
             ("[motion]\nspeed = 20.0\n", kind, kind), ("[motion]\nspeed = true\n", kind, kind),
             ("[motion]\nspeed = [20]\n", kind, kind), ("[[motion]]\nspeed = 20\n", kind, kind),
+            # Beginning anew is tested behind the speed, which it needs.
+            ("[motion]\nspeed = 0\nrestart = true\n", YES_0, YES_0), ("[motion]\nrestart = false\nspeed = 0\n", YES_0, YES_0),
+            ("[motion]\nrestart = true\n", unasked, unasked), ("[motion]\nrestart = false\n", unasked, unasked),
+            ("[motion]\nspeed = 0\nrestart = 1\n", no_truth, no_truth), ("[motion]\nrestart = 'true'\n", no_truth, no_truth),
+            ("[motion]\nspeed = -1\nrestart = 1\n", range_, range_), ("[motion]\nspeed = '1'\nrestart = true\n", kind, kind),
             # An unknown name is told before a speed that is missing.
             ("[motion]\nsped = 20\n", "34 Unknown motion.sped", "34 Unknown motion.sped"))):
         paths = zenith_paths(folder, SETTINGS + text, f"speed{number}")

@@ -30,6 +30,7 @@ SETTINGS = st.builds(
     galileo=st.one_of(st.none(), st.builds(Galileo, codes=CODES, offset=PAIR)),
     speed=st.one_of(st.none(), st.integers(0, 10**6)),
     satellites=st.dictionaries(st.sampled_from(["G01", "G32", "E05"]), PAIR),
+    restart=st.booleans(),
     station=st.one_of(
         st.none(), st.builds(Station, place=st.one_of(st.just("header"), THREE), age=st.integers(1, 600))
     ),

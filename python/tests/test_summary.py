@@ -92,6 +92,16 @@ class TestMarks:
         assert len(lines) == 2
         assert totals_of(TUBE) == (["", ""], [f"epochs 2: {two}"])
 
+    def test_a_track_that_begins_anew(self):
+        again = TUBE.replace("epoch 1", "epoch 4").replace("epoch 2", "epoch 5")
+        marks, lines = totals_of(TUBE + LOST + again + LOST.replace("epoch 3", "epoch 6"))
+        assert marks == ["", "", "lost", "", "", "lost"]
+        assert lines[0].endswith("; lost at epoch 3, 6")
+        assert "epoch 3 is lost: no trajectory" in lines[1]
+        assert lines[1].endswith("begins anew behind it, and a yes of retrack speaks of each piece by itself")
+        assert "epoch 6 is lost: no trajectory" in lines[2]
+        assert "of the log's 6 epochs alone, 1 to 6: go on with --from 7" in lines[2]
+
     def test_how_many_epochs_of_a_file_the_log_covers(self):
         line = "> 2008 05 26 05 59 {}.0000000  {}  1\n"
         obs = "".join(

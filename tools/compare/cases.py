@@ -563,6 +563,8 @@ def motion_settings(plain, kinds):
     yield "motion without a key", plain + b"[motion]\n"
     for value in (*kinds, b"20000", b"1000000", b"1000001", b"-0", b"1_000", b"0x10", b"9223372036854775807", b"{}"):
         yield f"speed = {value}", plain + b"[motion]\nspeed = " + value + b"\n"
+        yield f"restart = {value}", plain + b"[motion]\nspeed = 20000\nrestart = " + value + b"\n"
+        yield f"restart = {value}, and no speed", plain + b"[motion]\nrestart = " + value + b"\n"
     for text in (b"motion = 20000", b"motion = []", b"motion = {}", b"motion = {speed = 20000}", b"speed = 20000",
                  b"motion.speed = 20000", b"motion = 'speed'"):
         yield f"{text} in the root", text + b"\n" + plain

@@ -16,6 +16,8 @@ from pathlib import Path
 
 import pytest
 
+from gpscover.log import epochs as log_epochs
+from tools.compare.second import recheck
 from tools.made import made_files
 from tools.tests.program import DAY, INPUT, USAGE
 
@@ -84,6 +86,7 @@ FOUR_NAV = NAV_HEADER + "".join(
 # No box is split, so each epoch that fits keeps its root.
 UNSPLIT = SETTINGS.replace("outliers = 1", "outliers = 0").replace("bisections = 4096", "bisections = 0")
 MOVING = UNSPLIT + "[motion]\nspeed = 500\n"
+ANEW = MOVING + "restart = true\n"
 TRACK_FILES = {"a.obs": FOUR_OBS, "a.nav": FOUR_NAV, "a.toml": MOVING}
 
 # A log with one box, which is closed at the edge.
@@ -582,6 +585,15 @@ class TestParts(WholeRuns):
             self.expect(["check", *self.FILES, *part], self.FILES | {"a.log": log}, status, said)
 
 
+def second_verdict(folder):
+    """What the second checker says of the log of a track."""
+    try:
+        files = recheck.Files(*(str(folder / name) for name in TestTracks.FILES), moving=True)
+        return f"yes {recheck.TrackJudge(recheck.read_log((folder / 'b.log').read_bytes()), files).verdict()}"
+    except recheck.Ended as end:
+        return end.args[1]
+
+
 class TestTracks(WholeRuns):
     """What `track` writes, and what `retrack` says of it and of logs that were changed. A log of TRACK_FILES has a head of
     two lines, and of each epoch 8, from its own to `done`."""
@@ -619,6 +631,51 @@ class TestTracks(WholeRuns):
         third, _ = self.written_in(folder, ["solve", *self.FILES, "c.log", "--from", "3"], "c.log")
         longer = [*lines, *third.splitlines(keepends=True)[2:10]]
         self.expect_denied(files, longer, "no 51 EpochDiffers line 19\n")
+
+    def test_a_track_begins_anew(self):
+        """Behind the epoch in which the receiver is lost, from the search box: it is searched as by `solve` there."""
+        files = TRACK_FILES | {"a.obs": LOST_OBS, "a.toml": ANEW}
+        lines, report, folder = self.tracked(files)
+        assert "lost" not in report
+        third, _ = self.written_in(folder, ["solve", *self.FILES, "c.log", "--from", "3"], "c.log")
+        assert lines[18:] == third.splitlines(keepends=True)[2:]
+        self.expect_denied(files, lines[:18], "no 51 EpochDiffers line 19\n")
+        # By settings without the key the track ends there.
+        ended, report, _ = self.tracked(files | {"a.toml": MOVING})
+        assert (ended, report[-7:]) == (lines[:18], "lost 2\n")
+        self.expect_denied(files | {"a.toml": MOVING}, lines, "no 51 EpochDiffers line 19\n")
+
+    def test_a_last_epoch_is_lost(self):
+        """The report says so, whether the track would begin anew or not."""
+        folder = self.folder(TRACK_FILES | {"a.obs": LOST_OBS, "a.toml": ANEW})
+        words = ["a.obs", "a.nav", "a.toml", "b.log", "--to", "2"]
+        assert self.done_in(folder, ["track", *words])[-7:] == "lost 2\n"
+        self.expect_in(folder, ["retrack", *words], DONE, "yes 1\n")
+
+    def test_a_track_that_is_not_lost_never_begins_anew(self):
+        """The key changes nothing of its log and report."""
+        assert self.tracked(TRACK_FILES | {"a.toml": ANEW})[:2] == self.tracked(TRACK_FILES)[:2]
+
+    def test_a_fault_of_an_epoch_leaves_two_pieces(self):
+        """The ranges of three satellites are 300 m too long in the third epoch of a made receiver."""
+        made = made_files.Made(7, 6)
+        texts = made.texts()
+        head, *epochs = texts["obs"].split("> ")
+        epochs[2] = re.sub(r"(?m)^(G0[246]) +(\d+)", lambda it: f"{it[1]}{int(it[2]) + 300:>10}", epochs[2])
+        files = {"a.obs": "> ".join([head, *epochs]), "a.nav": texts["nav"]}
+        motion = texts["toml"] + "\n[motion]\nspeed = 100\n"
+        lines, _, folder = self.tracked(files | {"a.toml": motion + "restart = true\n"})
+        held = [made_files.is_held(epoch, made.receiver) for epoch in log_epochs(folder / "b.log")]
+        assert held == [True, True, False, True, True, True]
+        roots = [line for line in lines if line.startswith("root ")]
+        assert [root == roots[0] for root in roots] == [True, False, False, True, False, False]
+        assert second_verdict(folder) == f"yes {sum(len(epoch.kept) for epoch in log_epochs(folder / 'b.log'))}"
+        ended, report, _ = self.tracked(files | {"a.toml": motion})
+        assert (ended, report[-7:]) == (lines[: len(ended)], "lost 3\n")
+        denied = f"no 51 EpochDiffers line {len(ended) + 1}"
+        self.expect_denied(files | {"a.toml": motion}, lines, f"{denied}\n")
+        (folder / "a.toml").write_text(motion)
+        assert second_verdict(folder) == denied
 
     def test_each_epoch_of_a_track_is_wanted(self):
         """Epochs that are left out, at the end or between others."""

@@ -18,7 +18,7 @@ use Rattle.sat_model.specs.Logs.{LogValue}
 use Rattle.grid_model.specs.declared.boxes.Pos.{Pos}
 use Rattle.tube_searches.specs.Tubes.{tube_searches}
 use Rattle.cover_run.proofs.SameInputs.{root_there, own_there, admits_there, epochs_same}
-use Rattle.cover_run.proofs.SameInputs.{searches_same, tube_same}
+use Rattle.cover_run.proofs.SameInputs.{searches_same, tracks_same}
 use Rattle.cover_run.proofs.SolvingLemmas.{files_delays}
 use Rattle.cover_run.specs.Checking.{Refuses}
 use Rattle.cover_run.specs.Rechecking.{RefusesTrack}
@@ -87,10 +87,8 @@ track_not_refused chosen i j limit bytes said log fault same tracked text refuse
     j.settings.rules log fault) fast (subst (λ (search : GridBox).
     IsRefused (meaning_of j) (tube_searches (tube_of chosen j search refused.speed) log.blocks)
     j.settings.rules log fault) box refused.refused)) in
-    let alike = tube_same tracked.speed tracked.search None (epochs_of chosen i)
-    (epochs_of chosen j) whole.log.blocks (epochs_same i j same chosen) in
-    let back = tube_same tracked.speed tracked.search None (epochs_of chosen j)
-    (epochs_of chosen i) whole.log.blocks (sym (epochs_same i j same chosen)) in
+    let alike = tracks_same i j same chosen tracked.search tracked.speed whole.log.blocks in
+    let back = tracks_same j i (sym same) chosen tracked.search tracked.speed whole.log.blocks in
     let admits = tracked.admits r.owns
     (own_there i j same here there whole.log.blocks r.owns back r.are_own) in
     r.refused (subst (λ (delays : Delays). Admits delays there r.owns j.settings.rules whole.log)

@@ -35,8 +35,8 @@ module _ (chosen : Selection) (f : Checked) (search : GridBox) (speed : ℕ)
     speed = speed;
     is_tube = is_tube;
     accepted = accepted;
-    found = λ path goes fits. found_by (meaning_of i) (tube_of chosen i search speed)
-        i.settings.rules (log_value f.log) boxes path refl accepted goes fits;
+    found = λ k path begins goes fits. found_by (meaning_of i) (tube_of chosen i search speed)
+        i.settings.rules (log_value f.log) boxes k path refl accepted begins goes fits;
   }
 
   -- what is known of a verdict by the checker's clauses

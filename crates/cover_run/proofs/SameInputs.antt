@@ -1,5 +1,5 @@
 -- What the files say of a log is said by the values that are read from them.
-use Rattle.std.proofs.Common.{◌≡◌, ℕ, List, [], ◌∷◌, Option, None, Some}
+use Rattle.std.proofs.Common.{◌≡◌, ℕ, Bool, List, [], ◌∷◌, Option, None, Some}
 use Rattle.std.proofs.Common.{refl, sym, ap, subst, ◌∙◌}
 use Rattle.std.specs.Prelude.{ℤ, ◌≤ℤ◌}
 use Rattle.std.specs.Option.{option_map}
@@ -11,7 +11,7 @@ use Rattle.error_bounds.specs.Reading.{centre_with, IsRoot, value_of_settings}
 use Rattle.error_bounds.specs.Texts.{SettingsValue}
 use Rattle.input_files.specs.Inputs.{InputsValue, inputs_value}
 use Rattle.input_files.specs.declared.inputs.Inputs.{Inputs}
-use Rattle.moving_tube.specs.Roots.{Before, kept_of, root_for}
+use Rattle.moving_tube.specs.Roots.{Before, handed_on, kept_of, root_for}
 use Rattle.log_lines.proofs.ValueLemmas.{same_rules}
 use Rattle.paving_log_check.specs.Admissible.{Admits, AdmitsFrom, IsDue, IsOf}
 use Rattle.paving_log_check.specs.Epochs.{EpochPasses}
@@ -31,10 +31,11 @@ use Rattle.gnss_model.specs.declared.delays.Delays.{Delays}
 use Rattle.grid_model.specs.declared.spans.Span.{Span}
 use Rattle.sat_rows.specs.Meanings.{Meaning}
 use Rattle.sat_rows.specs.OwnRows.{AreOwnLines}
-use Rattle.tube_searches.specs.Tubes.{from_root, searches_from}
+use Rattle.tube_searches.specs.Tubes.{from_root, searches_from, tube_searches}
 use Rattle.station_epochs.specs.Stations.{Station}
 use Rattle.cover_run.proofs.SameStations.{by_values, meaning_by, station_moved}
 use Rattle.cover_run.specs.Solving.{IsRootOf, epochs_of, meaning_of, station_in}
+use Rattle.cover_run.specs.Tracking.{tube_of}
 use Rattle.grid_model.proofs.OrderLemmas.{le_prop as from_prop}
 use Rattle.made_input.proofs.FitLemmas.{same_record}
 
@@ -111,17 +112,16 @@ rooted_same : (o : Option GridBox) (a b : ObsEpoch) (xs ys : GridBox → List Se
 rooted_same None a b xs ys e later = tt
 rooted_same (Some root) a b xs ys e later = (refl, e, later root)
 
-module _ (speed : ℕ) (search : GridBox) where
+module _ (speed : ℕ) (restart : Bool) (search : GridBox) where
   -- at the time of the one or of the other
   abbrev later_at : ℤ → List ObsEpoch → Block → List Block → GridBox → List Search
   later_at tag more block blocks root =
-      searches_from speed search (Some (record { tag = tag; kept = kept_of root block })) more
-      blocks
+      searches_from speed restart search (handed_on restart tag (kept_of root block)) more blocks
 
   pub tube_same : (before : Option Before) (xs ys : List ObsEpoch) (blocks : List Block)
       → plain_epochs xs ≡ plain_epochs ys
-      → AreSameSearches (searches_from speed search before xs blocks)
-      (searches_from speed search before ys blocks)
+      → AreSameSearches (searches_from speed restart search before xs blocks)
+      (searches_from speed restart search before ys blocks)
   tube_same before [] [] blocks e = tt
   tube_same before [] (b ∷ ys) blocks e = cc
   tube_same before (a ∷ xs) [] blocks e = cc
@@ -143,7 +143,7 @@ module _ (speed : ℕ) (search : GridBox) where
       (rooted_same (root_for speed search before a.tag) a b (later_at a.tag xs block blocks)
       (later_at a.tag ys block blocks) both.head
       (λ root.
-      tube_same (Some (record { tag = a.tag; kept = kept_of root block })) xs ys blocks both.tail))
+      tube_same (handed_on restart a.tag (kept_of root block)) xs ys blocks both.tail))
 
 -- ---- own lines
 
@@ -223,6 +223,19 @@ module _ (i j : Inputs) (same : inputs_value i ≡ inputs_value j) where
       → plain_epochs (epochs_of chosen i) ≡ plain_epochs (epochs_of chosen j)
   epochs_same chosen = same_selected chosen i.obs.epochs.items j.obs.epochs.items
       (ap (λ (v : InputsValue). v.obs.epochs) same)
+
+  -- and so are the searches of a track
+  pub tracks_same : (chosen : Selection) (search : GridBox) (speed : ℕ) (blocks : List Block)
+      → AreSameSearches (tube_searches (tube_of chosen i search speed) blocks)
+      (tube_searches (tube_of chosen j search speed) blocks)
+  tracks_same chosen search speed blocks =
+      let restart = i.settings.restart in
+      subst (λ (r : Bool).
+      AreSameSearches (searches_from speed restart search None (epochs_of chosen i) blocks)
+      (searches_from speed r search None (epochs_of chosen j) blocks))
+      (ap (λ (v : SettingsValue). v.restart) settings_same)
+      (tube_same speed restart search None (epochs_of chosen i) (epochs_of chosen j) blocks
+      (epochs_same chosen))
 
   pub root_there : (root : GridBox) → IsRootOf j root → IsRootOf i root
   root_there root is = subst

@@ -318,8 +318,8 @@ track_of chosen i search speed last limit (Ok done) bytes said is_tube distinct 
           (files_delays i) (whole_admits m sound renews directions rules here last refl limit bytes track.report w owns are);
       cover = whole_covers m sound renews directions rules here last refl limit bytes track.report w;
       nothing_clear = whole_clear m sound renews directions rules here refl distinct limit bytes track.report last w;
-      found = λ path goes fits. found_by m (tube_of chosen i search speed) rules w.log (kept_boxes w.log) path refl
-          (whole_accepted m sound renews directions rules here last refl limit bytes track.report w) goes fits;
+      found = λ k path begins goes fits. found_by m (tube_of chosen i search speed) rules w.log (kept_boxes w.log) k path refl
+          (whole_accepted m sound renews directions rules here last refl limit bytes track.report w) begins goes fits;
     }
 track_of chosen i search speed last limit (Err fault) bytes said is_tube distinct begun = record {
   search = search;

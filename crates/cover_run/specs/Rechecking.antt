@@ -16,9 +16,9 @@ use Rattle.cover_run.specs.declared.checked.Checked.{Checked}
 
 module _ (chosen : Selection) (i : Inputs) (log : LogValue) where
   -- The log is admissible for own lines of each chosen epoch, each over the root that the one
-  -- before leaves, up to the first in which the receiver is lost. In each of them that it gives as
-  -- paved, what fits is covered, and each in box fits. So each trajectory that fits is found. It
-  -- has so many in and edge boxes.
+  -- before leaves, up to the first in which the receiver is lost, or where the track begins anew to
+  -- the last. In each of them that it gives as paved, what fits is covered, and each in box fits. So
+  -- each trajectory that fits is found. It has so many in and edge boxes.
   pub record AcceptsTrack (boxes : ℕ) : Type 0 where
     pub search : GridBox
     pub speed : ℕ

@@ -1,7 +1,7 @@
 -- What `track` writes: the log of a receiver that moves, each epoch over the root that the one
 -- before leaves.
 use Rattle.std.specs.Prelude.{◌≡◌, ℕ, ◌++◌, Bool, true, false, List, [], ◌∷◌, length, Option, None}
-use Rattle.std.specs.Prelude.{Some, Ok, Err, codes, decimal}
+use Rattle.std.specs.Prelude.{Some, Ok, Err, codes, decimal, drop}
 use Rattle.sharpness_laws.specs.Left.{BlocksLeaveNothingClear, LogLeavesNothingClear}
 use Rattle.command_words.specs.Commands.{Files}
 use Rattle.epoch_rows.specs.EpochsLeft.{EpochsLeft, left_in}
@@ -27,7 +27,7 @@ use Rattle.paving_log_check.specs.Admissible.{Admits}
 use Rattle.paving_log_check.specs.FileCover.{FileCover}
 use Rattle.paving_log_check.specs.OwnLines.{OwnLines, AreOwn}
 use Rattle.sat_model.specs.Logs.{Block, LogValue, is_few}
-use Rattle.tube_searches.specs.Found.{IsPath, PathFits, IsFoundIn}
+use Rattle.tube_searches.specs.Found.{BeginsPiece, IsPath, PathFits, IsFoundIn}
 use Rattle.tube_searches.specs.Tubes.{TubeValue, tube_searches}
 use Rattle.cover_run.specs.Chosen.{chosen_in}
 use Rattle.cover_run.specs.Solving.{IsRootOf, epoch_source, epochs_of, meaning_of, most_of}
@@ -101,10 +101,15 @@ pub record IsTubeOf (i : Inputs) (root : GridBox) (fastest : ℕ) : Type 0 where
   pub search : IsRootOf i root
   pub speed : speed_of i.settings ≡ Some fastest
 
--- the chosen epochs, the first in the search box
+-- the chosen epochs, the first in the search box; it begins anew where the settings say so
 abbrev pub tube_of : Selection → Inputs → GridBox → ℕ → TubeValue
-tube_of chosen i search speed =
-    record { epochs = epochs_of chosen i; search = search; speed = speed; before = None }
+tube_of chosen i search speed = record {
+  epochs = epochs_of chosen i;
+  search = search;
+  speed = speed;
+  restart = i.settings.restart;
+  before = None;
+}
 
 -- before the first of them; each later one is searched in the root that the one before leaves
 abbrev pub moving : Selection → Inputs → GridBox → ℕ → EpochsLeft
@@ -112,18 +117,19 @@ moving chosen i search speed =
     left_in (epochs_of chosen i) (λ blocks. tube_searches (tube_of chosen i search speed) blocks)
 
 module _ (chosen : Selection) (i : Inputs) where
-  -- By these searches of a log each trajectory of the declared speed over the first epochs, however
-  -- many, that fits in each paved one of them is found in each of them.
+  -- By these searches of a log each trajectory of the declared speed over the first epochs of a
+  -- piece of the track, however many, that fits in each paved one of them is found in each of them.
   abbrev pub FindsReceiver : GridBox → ℕ → LogValue → List Search → Type 0
   FindsReceiver search speed log searches =
-      (path : List Stay) → IsPath speed search (epochs_of chosen i) path
-      → PathFits (meaning_of i) i.settings.rules.outliers searches log.blocks path
-      → IsFoundIn searches log.blocks path
+      (k : ℕ) (path : List Stay) → BeginsPiece log.blocks k
+      → IsPath speed search (drop k (epochs_of chosen i)) path
+      → PathFits (meaning_of i) i.settings.rules.outliers (drop k searches) (drop k log.blocks) path
+      → IsFoundIn (drop k searches) (drop k log.blocks) path
 
   -- The text of one log and its report, within the limit: each epoch's block has own lines, with
-  -- the room that `solve` gives them, over the root that the one before leaves; it ends behind an
-  -- epoch in which the receiver is lost. All own lines over these roots admit it, what fits is
-  -- covered, and nothing clear is left; and each trajectory that fits is found.
+  -- the room that `solve` gives them, over the root that the one before leaves; behind an epoch in
+  -- which the receiver is lost it ends, or begins anew. All own lines over these roots admit it, what
+  -- fits is covered, and nothing clear is left; and each trajectory that fits is found.
   pub record IsTracked (limit : ℕ) (bytes said : List ℕ) : Type 0 where
     pub search : GridBox
     pub speed : ℕ

@@ -32,9 +32,10 @@ use std::alloc::Global;
 /// epoch that is taken, and `--station FILE`, the observation file of a station, with which rows are
 /// those of single differences. `track` and `retrack` with these words are the same of a receiver that
 /// moves: each epoch is searched in the root that the one before leaves, and behind one in which
-/// the receiver is lost nothing more is. `guard OBS NAV SETTINGS ZONES LOG` checks the log as
-/// `check` does, or with `--track` as `retrack`. Where the verdict is no it prints that alone, and
-/// else for each epoch what is found of each zone and direction. `pave ROWS LOG` reads the rows,
+/// the receiver is lost nothing more is, or where the settings say so the track begins anew. `guard
+/// OBS NAV SETTINGS ZONES LOG` checks the log as `check` does, or with `--track` as `retrack`. Where
+/// the verdict is no it prints that alone, and else for each epoch what is found of each zone and
+/// direction. `pave ROWS LOG` reads the rows,
 /// paves their epochs, writes the log and prints the report on `out`. With `--quiet` these three
 /// that write a log print no report: `out` stays as it is. `make SEED EPOCHS` makes the
 /// files of a receiver, solves them in memory and prints two lines on `out`. What stands in the way

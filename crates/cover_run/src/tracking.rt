@@ -67,6 +67,7 @@ pub fn declared_tube(inputs: &Inputs, chosen: Selection) -> Tube<'_>
             root: settings.root(inputs.obs.position),
         },
         speed: declared_speed(inputs),
+        restart: settings.restart,
         before: None,
     }
 }
@@ -84,7 +85,7 @@ fn tell_lost<O: Sink, E: Sink>(lost: Option<u32>, out: &mut O, err: &mut E) -> S
 
 /// Writes the log of these epochs of the files, each over the root that the one before leaves, and
 /// prints its report. Rows are renewed where the settings say so. Behind an epoch in which the
-/// receiver is lost it says so, and ends.
+/// receiver is lost it ends, or begins anew where the settings say so; of a last one it says so.
 fn write_track<H: Shelf, O: Sink, E: Sink>(
     alloc: Global,
     limits: &Limits,

@@ -32,12 +32,12 @@ same_sum : (a b c d a' b' c' d' : ℤ × ℤ) → a ≡ a' → b ≡ b' → c �
     → add (add (add a b) c) d ≡ add (add (add a' b') c') d'
 same_sum a b c d a' b' c' d' ea eb ec ed = rw (ea, eb, ec, ed) refl
 
-same_fields : (c c' : Centre) (h h' : Pos) (o o' b b' : ℕ) (w w' : ℤ) (m m' : ℕ) (r r' d d' : Bool) (n n' : Option DirectionsValue) (s s' : Signal) (k k' : ℤ × ℤ) (x x' : List (Sat × (ℤ × ℤ))) (z z' u u' : Option (ℤ × ℤ)) (g g' : Option GalileoValue) (v v' : Option ℕ) (t t' : Option StationValue)
+same_fields : (c c' : Centre) (h h' : Pos) (o o' b b' : ℕ) (w w' : ℤ) (m m' : ℕ) (r r' d d' : Bool) (n n' : Option DirectionsValue) (s s' : Signal) (k k' : ℤ × ℤ) (x x' : List (Sat × (ℤ × ℤ))) (z z' u u' : Option (ℤ × ℤ)) (g g' : Option GalileoValue) (v v' : Option ℕ) (a a' : Bool) (t t' : Option StationValue)
     → c ≡ c' → h ≡ h' → o ≡ o' → b ≡ b' → w ≡ w' → m ≡ m' → r ≡ r' → d ≡ d' → n ≡ n' → s ≡ s' → k ≡ k'
-    → x ≡ x' → z ≡ z' → u ≡ u' → g ≡ g' → v ≡ v' → t ≡ t'
-    → ◌≡◌ {A = SettingsValue} (record { centre = c; half = h; outliers = o; bisections = b; width = w; max_age = m; renew = r; pairs = d; directions = n; signal = s; common = k; extra = x; zenith = z; vertical = u; galileo = g; speed = v; station = t })
-    (record { centre = c'; half = h'; outliers = o'; bisections = b'; width = w'; max_age = m'; renew = r'; pairs = d'; directions = n'; signal = s'; common = k'; extra = x'; zenith = z'; vertical = u'; galileo = g'; speed = v'; station = t' })
-same_fields c c' h h' o o' b b' w w' m m' r r' d d' n n' s s' k k' x x' z z' u u' g g' v v' t t' ec eh eo eb ew em er ed en es ek ex ez eu eg ev et = cc
+    → x ≡ x' → z ≡ z' → u ≡ u' → g ≡ g' → v ≡ v' → a ≡ a' → t ≡ t'
+    → ◌≡◌ {A = SettingsValue} (record { centre = c; half = h; outliers = o; bisections = b; width = w; max_age = m; renew = r; pairs = d; directions = n; signal = s; common = k; extra = x; zenith = z; vertical = u; galileo = g; speed = v; restart = a; station = t })
+    (record { centre = c'; half = h'; outliers = o'; bisections = b'; width = w'; max_age = m'; renew = r'; pairs = d'; directions = n'; signal = s'; common = k'; extra = x'; zenith = z'; vertical = u'; galileo = g'; speed = v'; restart = a'; station = t' })
+same_fields c c' h h' o o' b b' w w' m m' r r' d d' n n' s s' k k' x x' z z' u u' g g' v v' a a' t t' ec eh eo eb ew em er ed en es ek ex ez eu eg ev ea et = cc
 
 none_read : {V : Type 0} (key : Key V) (tree : Members) (v : V) → get_member key.table tree ≡ None
     → value_of key tree ≡ Ok v → ⊥
@@ -72,12 +72,12 @@ same_station tree (Some v) (Some w) p q = same_settled _ _ _ _ (same_read _ _ _ 
 
 pub one_value : (tree : Members) (v w : SettingsValue) → IsValue tree v → IsValue tree w → v ≡ w
 one_value tree v w p q =
-    same_fields v.centre w.centre v.half w.half v.outliers w.outliers v.bisections w.bisections v.width w.width v.max_age w.max_age v.renew w.renew v.pairs w.pairs v.directions w.directions v.signal w.signal v.common w.common v.extra w.extra v.zenith w.zenith v.vertical w.vertical v.galileo w.galileo v.speed w.speed v.station w.station
+    same_fields v.centre w.centre v.half w.half v.outliers w.outliers v.bisections w.bisections v.width w.width v.max_age w.max_age v.renew w.renew v.pairs w.pairs v.directions w.directions v.signal w.signal v.common w.common v.extra w.extra v.zenith w.zenith v.vertical w.vertical v.galileo w.galileo v.speed w.speed v.restart w.restart v.station w.station
     (same_read _ _ _ p.centre q.centre) (same_read _ _ _ p.half q.half) (same_read _ _ _ p.outliers q.outliers) (same_read _ _ _ p.bisections q.bisections)
     (same_read _ _ _ p.width q.width) (same_read _ _ _ p.max_age q.max_age) (same_read _ _ _ p.renew q.renew) (same_read _ _ _ p.pairs q.pairs) (same_read _ _ _ p.directions q.directions) (same_read _ _ _ p.signal q.signal)
     (p.common ∙ (same_sum _ _ _ _ _ _ _ _ (same_read _ _ _ p.is_receiver q.is_receiver) (same_read _ _ _ p.is_orbit_clock q.is_orbit_clock)
     (same_read _ _ _ p.is_ionosphere q.is_ionosphere) (same_read _ _ _ p.is_troposphere q.is_troposphere) ∙ sym q.common))
-    (p.extra ∙ sym q.extra) (same_read _ _ _ p.zenith q.zenith) (same_read _ _ _ p.vertical q.vertical) (same_galileo tree v.galileo w.galileo p.galileo q.galileo) (same_read _ _ _ p.speed q.speed) (same_station tree v.station w.station p.station q.station)
+    (p.extra ∙ sym q.extra) (same_read _ _ _ p.zenith q.zenith) (same_read _ _ _ p.vertical q.vertical) (same_galileo tree v.galileo w.galileo p.galileo q.galileo) (same_read _ _ _ p.speed q.speed) (same_read _ _ _ p.restart q.restart) (same_station tree v.station w.station p.station q.station)
 
 one_tree : (text : List ℕ) (a b : Members) → IsTree text a → IsTree text b → a ≡ b
 one_tree text a b p q = same_Some a b (sym p.parsed ∙ q.parsed)

@@ -206,3 +206,7 @@ only_if condition (Err fault) = Err fault
 
 abbrev pub directions_with : Bool → Data → Result DirectionsValue Fault
 directions_with pairs d = only_if pairs (directions d)
+
+-- a truth value, where what it speaks of is declared
+abbrev pub truth_with : Bool → Data → Result Bool Fault
+truth_with declared d = only_if declared (truth d)

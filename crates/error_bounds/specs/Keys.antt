@@ -8,7 +8,7 @@ use Rattle.gnss_model.specs.declared.systems.Message.{Message}
 use Rattle.gnss_model.specs.declared.systems.Message.TheVariants.{Fnav, Inav}
 use Rattle.toml.specs.Data.{Data, Members, no_members, get_member, as_table}
 use Rattle.error_bounds.specs.Faults.{Found}
-use Rattle.error_bounds.specs.Forms.{count, length_from, truth, errors, place, ground_place, half_sides, mode_word, code_list, message_word, galileo_list, DirectionsValue, directions_with}
+use Rattle.error_bounds.specs.Forms.{count, length_from, truth, truth_with, errors, place, ground_place, half_sides, mode_word, code_list, message_word, galileo_list, DirectionsValue, directions_with}
 use Rattle.error_bounds.specs.declared.fault.Fault.{Fault}
 use Rattle.error_bounds.specs.declared.fault.Fault.TheVariants.{Missing, WrongKind, Outside}
 use Rattle.error_bounds.specs.declared.signals.Mode.{Mode}
@@ -129,6 +129,12 @@ galileo_offset = record { table = codes "galileo"; name = codes "offset"; form =
 -- the greatest speed of the receiver, in mm/s: up to 1 km/s, and it may be absent
 abbrev pub speed : Key ℕ
 speed = record { table = codes "motion"; name = codes "speed"; form = count 0 1000000 }
+
+-- whether a track begins anew behind an epoch that kept no box, where there is a speed; it may be
+-- absent
+abbrev pub restart : Bool → Key Bool
+restart moves =
+    record { table = codes "motion"; name = codes "restart"; form = truth_with moves }
 
 -- where a station stands
 abbrev pub station_place : Key Centre
@@ -313,9 +319,17 @@ message_from (Some d) = message_in (as_table d)
 abbrev pub message_at : Members → Result Message Fault
 message_at tree = message_from (get_member (codes "galileo") tree)
 
--- the table of the receiver's motion may be absent too
+-- The table of the receiver's motion may be absent too. Beginning anew goes by the speed; where that
+-- has a fault of its own, it comes first.
+abbrev pub is_there : {V : Type 0} → Result (Option V) Fault → Bool
+is_there (Ok found) = is_some found
+is_there (Err fault) = false
+
+abbrev pub restart_key : Members → Key Bool
+restart_key tree = restart (is_there (optional_at speed tree))
+
 abbrev pub motion_tests : Members → List Test
-motion_tests tree = test_optional_at speed tree ∷ []
+motion_tests tree = test_optional_at speed tree ∷ test_optional_at (restart_key tree) tree ∷ []
 
 -- The table of a station may be absent; where it is there both keys are needed. Its age goes by that
 -- of records; where that has a fault of its own, it comes first.

@@ -84,6 +84,7 @@ value_of_settings s = record {
   vertical = option_map ends s.delays.vertical;
   galileo = option_map galileo_value s.galileo;
   speed = s.speed;
+  restart = s.restart;
   station = option_map station_value s.station;
 }
 

@@ -19,7 +19,7 @@ knows scope.Bounds name =
     ∷ codes "zenith" ∷ codes "vertical" ∷ [])
 knows scope.Galileo name =
     list_any (is_text name) (codes "message" ∷ codes "codes" ∷ codes "offset" ∷ [])
-knows scope.Motion name = list_any (is_text name) (codes "speed" ∷ [])
+knows scope.Motion name = list_any (is_text name) (codes "speed" ∷ codes "restart" ∷ [])
 knows scope.Station name = list_any (is_text name) (codes "place" ∷ codes "age" ∷ [])
 knows (scope.Satellite both) name = is_satellite both name
 

@@ -44,6 +44,7 @@ pub record SettingsValue : Type 0 where
   pub vertical : Option (ℤ × ℤ)
   pub galileo : Option GalileoValue
   pub speed : Option ℕ
+  pub restart : Bool
   pub station : Option StationValue
 
 -- the sum of two spans, each a pair of ends
@@ -105,6 +106,7 @@ pub record IsValue (tree : Members) (v : SettingsValue) : Type 0 where
   pub vertical : key.optional_at key.vertical tree ≡ Ok v.vertical
   pub galileo : IsGalileo tree v.galileo
   pub speed : key.optional_at key.speed tree ≡ Ok v.speed
+  pub restart : key.truth_at (key.restart_key tree) tree ≡ Ok v.restart
   pub station : IsStation tree v.station
 
 -- the first fault of a tree: the first key with one, and behind all keys the first unknown name

@@ -3,7 +3,7 @@
 ghost use Rattle.std.specs.Prelude.{◌≡◌, ◌≤◌, Result, IfOk, is_some, pos, [], ◌∷◌, ◌≤ℤ◌, ◌*◌};
 ghost use Rattle.toml.specs.Data.{Data, as_integer};
 ghost use Rattle.toml.specs.View.{view, items_view};
-ghost use Rattle.error_bounds.specs.Forms.{all_members, count, length_from, truth, errors, ends_of, is_within, um};
+ghost use Rattle.error_bounds.specs.Forms.{all_members, count, length_from, truth, truth_with, errors, ends_of, is_within, um};
 ghost use Rattle.error_bounds.specs.Sizes.{IsSpanWithin};
 ghost use Rattle.error_bounds.specs.Reading.{ends_in};
 ghost use Rattle.error_bounds.specs.declared.fault.Fault.{Fault};
@@ -44,6 +44,12 @@ pub struct Length {
 /// A truth value.
 #[derive(Clone, Copy)]
 pub struct Truth;
+
+/// A truth value that may be there only where what it speaks of is declared.
+#[derive(Clone, Copy)]
+pub struct TruthWith {
+    pub declared: bool,
+}
 
 /// A span of errors, `[lo, hi]` in mm with amounts of at most `most`, read in um.
 #[derive(Clone, Copy)]
@@ -102,6 +108,22 @@ impl Form for Truth {
     fn read(&self, value: &Value) -> Result<bool, Fault> {
         match value.as_bool() {
             Some(b) => Ok(b),
+            None => Err(Fault::WrongKind),
+        }
+    }
+}
+
+impl Form for TruthWith {
+    type Output = bool;
+
+    ghost reads = { λ form d r. r ≡ truth_with form.declared d };
+
+    ghost allows = { λ form b. Unit {0} };
+
+    fn read(&self, value: &Value) -> Result<bool, Fault> {
+        match value.as_bool() {
+            Some(b) if self.declared => Ok(b),
+            Some(_) => Err(Fault::Outside),
             None => Err(Fault::WrongKind),
         }
     }

@@ -40,7 +40,7 @@ impl Scope {
             Scope::Signal => name == "mode" || name == "codes",
             Scope::Bounds => is_bound(name),
             Scope::Galileo => name == "message" || name == "codes" || name == "offset",
-            Scope::Motion => name == "speed",
+            Scope::Motion => name == "speed" || name == "restart",
             Scope::Station => name == "place" || name == "age",
             Scope::Satellite { both } => is_satellite(name, both),
         }

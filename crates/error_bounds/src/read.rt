@@ -28,7 +28,7 @@ fn read_tree(alloc: Global, tree: &Table) -> Result<Settings, SettingsError>
     let (mode, signal) = read_signal(tree)?;
     let bounds = read_bounds(tree)?;
     let galileo = read_galileo(tree, mode)?;
-    let speed = read_motion(tree)?;
+    let (speed, restart) = read_motion(tree)?;
     let station = read_station(tree, search.max_age)?;
     let extra = read_satellites(alloc, tree)?;
     check_names(alloc, tree)?;
@@ -45,6 +45,7 @@ fn read_tree(alloc: Global, tree: &Table) -> Result<Settings, SettingsError>
         delays: bounds.delays,
         galileo,
         speed,
+        restart,
         station,
     })
 }

@@ -50,6 +50,8 @@ pub struct Settings {
     /// The greatest speed of the receiver, in mm/s and up to 1 km/s, as the key `motion.speed`
     /// declares it.
     pub speed: Option<u32>,
+    /// Whether a track begins anew in the search box behind an epoch that kept no box.
+    pub restart: bool,
     /// The station whose epochs are taken beside those of the receiver, where one is declared.
     pub station: Option<DeclaredStation>,
     pub ghost centre_within: { IsCentre centre },

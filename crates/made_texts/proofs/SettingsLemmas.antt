@@ -66,6 +66,7 @@ settings_read text x y z near utf8 parsed = record {
     vertical = refl;
     galileo = refl;
     speed = refl;
+    restart = refl;
     station = refl;
   };
 }

@@ -68,6 +68,7 @@ settings_of x y z = record {
   vertical = None;
   galileo = None;
   speed = None;
+  restart = false;
   station = None;
 }
 

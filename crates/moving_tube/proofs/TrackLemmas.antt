@@ -1,5 +1,5 @@
 -- A receiver that fits in each paved one of the first epochs, and comes no farther than its reach, is found in each of them.
-use Rattle.std.proofs.Common.{◌≡◌, ℕ, true, List, [], ◌∷◌, sym, subst, Option, None, Some}
+use Rattle.std.proofs.Common.{◌≡◌, ℕ, Bool, true, List, [], ◌∷◌, refl, sym, subst, Option, None, Some}
 use Rattle.std.specs.Prelude.{ℤ}
 use Rattle.std.specs.List.{AllByRecursion}
 use Rattle.grid_model.specs.Boxes.{GridBox, box_holds}
@@ -8,7 +8,7 @@ use Rattle.sat_model.specs.Fold.{pieces}
 use Rattle.sat_model.specs.Logs.{Body}
 use Rattle.grid_model.specs.declared.boxes.Pos.{Pos}
 use Rattle.moving_tube.specs.Reach.{reach_of}
-use Rattle.moving_tube.specs.Roots.{kept_with, Before, root_after, root_for, reached_box}
+use Rattle.moving_tube.specs.Roots.{kept_of, kept_with, Before, handed_on, root_after, root_for, reached_box}
 use Rattle.moving_tube.specs.Tracks.{Stay, Left, IsReached, GoesOn, IsTrajectory, Visit, behind, AreRooted, HasRoot, IsKeptWith, AreKept, IsFoundWith, AreFound}
 use Rattle.moving_tube.proofs.HoldLemmas.{holds_reached}
 use Rattle.moving_tube.proofs.HullLemmas.{HullHolds, kept_held}
@@ -55,7 +55,13 @@ held_with : (root : GridBox) (body : Option Body) (stay : Stay) → HasRoot root
 held_with root None stay is found = found
 held_with root (Some body) stay is found = rw is (kept_held None (pieces root (steps_in body.events)) stay.at stay.offset found)
 
-module _ (speed : ℕ) (search : GridBox) where
+-- what an epoch hands on held it
+handed_held : (restart : Bool) (tag : ℤ) (kept : Option GridBox) (p : Pos) → HullHolds kept p
+    → IsHeld (handed_on restart tag kept) (Some (record { tag = tag; at = p }))
+handed_held restart tag None p held = absurd held
+handed_held restart tag (Some kept) p held = (refl, held)
+
+module _ (speed : ℕ) (restart : Bool) (search : GridBox) where
   -- each visit has its root in its block
   abbrev pub HaveRoots : List Visit → Type 0
   HaveRoots visits = AllByRecursion (λ v. HasRoot v.root v.block.body) visits
@@ -68,7 +74,7 @@ module _ (speed : ℕ) (search : GridBox) where
 
   found_from : (before : Option Before) (left : Option Left) (visits : List Visit) (tags : List ℤ) (path : List Stay)
       → IsHeld before left
-      → AreRooted speed search before visits → AreTimed visits tags → HaveRoots visits
+      → AreRooted speed restart search before visits → AreTimed visits tags → HaveRoots visits
       → GoesOn speed search left tags path → AreKept visits path
       → AreFound visits path
   found_from before left [] tags path held rooted timed roots goes kept = tt
@@ -78,11 +84,13 @@ module _ (speed : ℕ) (search : GridBox) where
       let inside = in_root speed search before left v.tag v.root stay.at held goes.0 (subst (λ (t : ℤ). IsReached speed left t stay.at) (sym timed.0) goes.1) rooted.0 in
       let found = found_with v.root v.block.body stay inside kept.0 in
       let held = held_with v.root v.block.body stay roots.0 found in
-      (found, found_from (behind v) (Some (record { tag = tag; at = stay.at })) more tags path (timed.0, held) rooted.1 timed.1 roots.1 goes.2 kept.1)
+      let handed = subst (λ (t : ℤ). IsHeld (behind restart v) (Some (record { tag = t; at = stay.at }))) timed.0
+      (handed_held restart v.tag (kept_of v.root v.block) stay.at held) in
+      (found, found_from (behind restart v) (Some (record { tag = tag; at = stay.at })) more tags path handed rooted.1 timed.1 roots.1 goes.2 kept.1)
 
   -- A trajectory that each paved one of its epochs keeps, where it is in its root, is found in each of them.
   pub track_found : (visits : List Visit) (tags : List ℤ) (path : List Stay)
-      → AreRooted speed search None visits → AreTimed visits tags
+      → AreRooted speed restart search None visits → AreTimed visits tags
       → HaveRoots visits → IsTrajectory speed search tags path → AreKept visits path
       → AreFound visits path
   track_found visits tags path rooted timed roots goes kept = found_from None None visits tags path tt rooted timed roots goes kept

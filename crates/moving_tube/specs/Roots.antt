@@ -1,5 +1,5 @@
 -- The box in which a moving receiver is searched, by the boxes that an epoch before kept.
-use Rattle.std.specs.Prelude.{ℕ, ℤ, pos, ◌+ℤ◌, ◌-ℤ◌, Option, None, Some}
+use Rattle.std.specs.Prelude.{ℕ, ℤ, Bool, true, false, pos, ◌+ℤ◌, ◌-ℤ◌, Option, None, Some}
 use Rattle.grid_model.specs.Boxes.{Side, GridBox}
 use Rattle.sat_model.specs.Contractors.{meet_box}
 use Rattle.sat_model.specs.Logs.{Body, Block}
@@ -37,6 +37,13 @@ kept_of root block = kept_with root block.body
 pub record Before : Type 0 where
   pub tag : ℤ
   pub kept : Option GridBox
+
+-- What an epoch of this time that kept this hands on to the next. A track that restarts hands on
+-- nothing where none was kept, so that the next epoch is searched like the first.
+abbrev pub handed_on : (restart : Bool) → ℤ → Option GridBox → Option Before
+handed_on restart tag (Some kept) = Some (record { tag = tag; kept = Some kept })
+handed_on true tag None = None
+handed_on false tag None = Some (record { tag = tag; kept = None })
 
 -- the root of an epoch: the search box for the first; none where the receiver is lost
 abbrev pub root_after : ℕ → GridBox → ℤ → Option GridBox → ℤ → Option GridBox

@@ -1,5 +1,5 @@
 -- Trajectories of a moving receiver, and the boxes in which it is found.
-use Rattle.std.specs.Prelude.{◌≡◌, ℕ, ℤ, true, List, [], ◌∷◌, Option, None, Some}
+use Rattle.std.specs.Prelude.{◌≡◌, ℕ, ℤ, Bool, true, List, [], ◌∷◌, Option, None, Some}
 use Rattle.grid_model.specs.Boxes.{GridBox, box_holds}
 use Rattle.sat_model.specs.Cover.{SomeKeeps}
 use Rattle.sat_model.specs.Events.{steps_in}
@@ -7,7 +7,7 @@ use Rattle.sat_model.specs.Fold.{pieces}
 use Rattle.sat_model.specs.Logs.{Body, Block}
 use Rattle.grid_model.specs.declared.boxes.Pos.{Pos}
 use Rattle.moving_tube.specs.Reach.{reach_of, IsWithinReach}
-use Rattle.moving_tube.specs.Roots.{Before, kept_of, root_for}
+use Rattle.moving_tube.specs.Roots.{Before, handed_on, kept_of, root_for}
 
 -- ---- a trajectory
 
@@ -46,14 +46,15 @@ pub record Visit : Type 0 where
   pub root : GridBox
   pub block : Block
 
-abbrev pub behind : Visit → Option Before
-behind v = Some (record { tag = v.tag; kept = kept_of v.root v.block })
+abbrev pub behind : (restart : Bool) → Visit → Option Before
+behind restart v = handed_on restart v.tag (kept_of v.root v.block)
 
 -- each is searched in the root that the one before leaves
-abbrev pub AreRooted : ℕ → GridBox → Option Before → List Visit → Type 0
-AreRooted speed search before [] = Unit {0}
-AreRooted speed search before (v ∷ more) =
-    (root_for speed search before v.tag ≡ Some v.root) × AreRooted speed search (behind v) more
+abbrev pub AreRooted : ℕ → (restart : Bool) → GridBox → Option Before → List Visit → Type 0
+AreRooted speed restart search before [] = Unit {0}
+AreRooted speed restart search before (v ∷ more) =
+    (root_for speed search before v.tag ≡ Some v.root)
+    × AreRooted speed restart search (behind restart v) more
 
 -- a block of few satellites has no root, and each other one that of its epoch
 abbrev pub HasRoot : GridBox → Option Body → Type 0

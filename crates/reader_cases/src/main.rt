@@ -36,6 +36,7 @@ fn answer(rt: &HostRuntime, case: &str) -> io::Result<()> {
         "ephemeris" => ephemerides::print(rt, words, fields),
         "settings" => settings::print(rt, fields),
         "station" => settings::print_station(rt, fields),
+        "motion" => settings::print_motion(rt, fields),
         "directions" => settings::print_directions(rt, fields),
         "header" => texts::print_header(rt, fields),
         "lines" => texts::print_lines(rt, fields),

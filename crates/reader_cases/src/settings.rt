@@ -31,6 +31,14 @@ pub fn print_station(rt: &HostRuntime, fields: Fields<'_>) -> io::Result<()> {
     }
 }
 
+/// Prints what the settings of a file say of how the receiver moves, or their first fault.
+pub fn print_motion(rt: &HostRuntime, fields: Fields<'_>) -> io::Result<()> {
+    match read_settings(rt.alloc(), &file(rt, fields)?) {
+        Ok(settings) => println!(rt; "{:?} {}", settings.speed, settings.restart),
+        Err(error) => print_error(rt, &error),
+    }
+}
+
 /// Prints along which directions a log by the settings of a file has bounds, a vector a line, or the
 /// first fault of the file.
 pub fn print_directions(rt: &HostRuntime, fields: Fields<'_>) -> io::Result<()> {

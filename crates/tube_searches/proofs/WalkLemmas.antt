@@ -1,5 +1,5 @@
 -- What the next search of a tube is says what its walk makes.
-use Rattle.std.proofs.Common.{◌≡◌, true, [], ◌∷◌, refl, sym, ap, subst, ◌∙◌, Option, None, Some, Result, Ok, Err, option_map}
+use Rattle.std.proofs.Common.{◌≡◌, Bool, true, false, [], ◌∷◌, refl, sym, ap, subst, ◌∙◌, Option, None, Some, Result, Ok, Err, option_map}
 use Rattle.std.specs.Prelude.{ℤ, is_some, IfOk, MatchOption, IfSome}
 use Rattle.epoch_selection.specs.Walks.{MakesNone, IsFirst}
 use Rattle.grid_model.specs.Boxes.{GridBox, grid_box}
@@ -7,7 +7,7 @@ use Rattle.grid_model.specs.SearchBoxes.{IsSearchBox}
 use Rattle.grid_model.specs.declared.boxes.Box3.{Box3}
 use Rattle.grid_model.specs.declared.memory.NoMemory.{NoMemory}
 use Rattle.moving_tube.specs.Hulls.{hull_of, HullLies}
-use Rattle.moving_tube.specs.Roots.{kept_with, kept_of}
+use Rattle.moving_tube.specs.Roots.{handed_on, kept_with, kept_of}
 use Rattle.moving_tube.proofs.KeptLemmas.{few_kept}
 use Rattle.moving_tube.proofs.RootLemmas.{hull_through}
 use Rattle.paving_log.specs.CoverBoxes.{cover_of}
@@ -15,12 +15,19 @@ use Rattle.rinex_obs.specs.declared.obs.ObsEpoch.{ObsEpoch}
 use Rattle.sat_model.specs.Contractors.{LiesIn}
 use Rattle.sat_model.specs.Logs.{Body, Block}
 use Rattle.subpaving.specs.LiveValues.{box_option}
-use Rattle.tube_searches.specs.Tubes.{TubeValue, with_kept, tube_searches, IsInside, IsOver, IsTaken}
+use Rattle.tube_searches.specs.Tubes.{TubeValue, with_kept, tube_searches, IsInsideOf, IsInside, IsOver, IsTaken}
 use Rattle.tube_searches.proofs.TubeLemmas.{over_searches, taken_searches, taken_last}
 
 pub same_option : (o : Option Box3) → box_option o ≡ option_map grid_box o
 same_option None = refl
 same_option (Some part) = refl
+
+-- what is handed on lies in the search box where what was kept does
+pub handed_inside : (search : GridBox) (restart : Bool) (tag : ℤ) (kept : Option GridBox)
+    → HullLies kept search → IsInsideOf search (handed_on restart tag kept)
+handed_inside search restart tag (Some kept) lies = lies
+handed_inside search true tag None lies = tt
+handed_inside search false tag None lies = tt
 
 module _ {X : Type 0} (seen : X → ObsEpoch) (root : X → GridBox) (old new : TubeValue) where
   abbrev Found : Option X → Type 0

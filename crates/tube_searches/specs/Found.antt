@@ -1,6 +1,7 @@
 -- Where a moving receiver is found by an accepted log.
-use Rattle.std.specs.Prelude.{ℕ, ℤ, List, [], ◌∷◌, map, Option, None, Some}
+use Rattle.std.specs.Prelude.{◌≡◌, ℕ, zero, suc, ℤ, List, [], ◌∷◌, map, Option, None, Some}
 use Rattle.epoch_selection.specs.Searches.{Search}
+use Rattle.paving_log.specs.CoverBoxes.{cover_of}
 use Rattle.moving_tube.specs.Tracks.{Stay, IsTrajectory, Visit, AreFound}
 use Rattle.rinex_obs.specs.declared.obs.ObsEpoch.{ObsEpoch}
 use Rattle.grid_model.specs.Boxes.{GridBox}
@@ -15,6 +16,18 @@ visits_of [] blocks = []
 visits_of (search ∷ rest) [] = []
 visits_of (search ∷ rest) (block ∷ more) =
     (record { tag = search.epoch.tag; root = search.root; block = block }) ∷ visits_of rest more
+
+-- the receiver is lost in an epoch that is paved and keeps no box
+abbrev pub IsLost : Option Body → Type 0
+IsLost None = ⊥
+IsLost (Some body) = cover_of (Some body) ≡ []
+
+-- a piece of the track begins with its first epoch, and behind each in which the receiver is lost
+abbrev pub BeginsPiece : List Block → ℕ → Type 0
+BeginsPiece blocks zero = Unit {0}
+BeginsPiece [] (suc k) = ⊥
+BeginsPiece (block ∷ more) (suc zero) = IsLost block.body
+BeginsPiece (block ∷ more) (suc (suc k)) = BeginsPiece more (suc k)
 
 -- One stay for each of the first selected epochs, as many as there are stays: each in the search
 -- box, and each later one within reach of the one before.

@@ -24,6 +24,8 @@ pub struct Kept {
 pub struct Tube<'a> {
     pub searches: Searches<'a>,
     pub speed: u32,
+    /// Whether it begins anew in the search box behind an epoch that kept no box.
+    pub restart: bool,
     pub before: Option<Kept>,
     pub ghost fast: { speed ≤ fastest },
 }

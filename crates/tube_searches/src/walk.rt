@@ -1,11 +1,14 @@
 //! The walk of a moving receiver.
 
+ghost use Rattle.std.specs.Prelude.{◌≡◌};
 ghost use Rattle.epoch_selection.specs.Searches.{epochs_left};
 ghost use Rattle.grid_model.specs.Boxes.{grid_box};
 ghost use Rattle.moving_tube.specs.Hulls.{HullLies};
-ghost use Rattle.moving_tube.specs.Roots.{kept_of};
+ghost use Rattle.moving_tube.specs.Roots.{handed_on, kept_of};
 ghost use Rattle.sat_model.specs.Contractors.{LiesIn};
-ghost use Rattle.tube_searches.specs.Tubes.{tube_value, with_kept, tube_searches, IsInside};
+ghost use Rattle.subpaving.specs.LiveValues.{box_option};
+ghost use Rattle.tube_searches.specs.Tubes.{before_value, tube_value, with_kept, tube_searches};
+ghost use Rattle.tube_searches.specs.Tubes.{IsInside};
 
 use crate::tube::{Kept, Tube};
 use epoch_selection::Walk;
@@ -15,6 +18,23 @@ use paving_log::LogEpoch;
 use paving_log_check::LogWalk;
 use rinex_obs::ObsEpoch;
 use std::alloc::Global;
+
+impl<'a> Tube<'a> {
+    /// What an epoch that kept this hands on to the next: nothing, where it kept no box and the
+    /// track begins anew behind it.
+    fn handed_on(&self, epoch: &ObsEpoch, kept: Option<Box3>) -> Option<Kept>
+        ensures { before_value result
+            ≡ handed_on self.now.restart epoch.now.tag (box_option kept) }
+    {
+        match kept {
+            None if self.restart => None,
+            _ => Some(Kept {
+                tag: epoch.tag,
+                part: kept,
+            }),
+        }
+    }
+}
 
 impl<'a> Walk<'a> for Tube<'a> {
     ghost epochs = { λ walk. epochs_left walk.searches };
@@ -37,10 +57,7 @@ impl<'a> Walk<'a> for Tube<'a> {
     }
 
     fn go_on(&mut self, epoch: &ObsEpoch, kept: Option<Box3>) {
-        self.before = Some(Kept {
-            tag: epoch.tag,
-            part: kept,
-        });
+        self.before = self.handed_on(epoch, kept);
     }
 }
 

@@ -157,22 +157,25 @@ def verdict(words: list[str], between: str = " ") -> str:
 def counts(folder: Path, options: Options) -> str:
     """What the log says of the epochs of the file, in one line."""
     marks: Counter[str] = Counter()
-    ended = ""
+    anew: list[int] = []  # the epochs behind which a track begins anew
+    ended = 0  # the epoch that ends a track, if it is the last one
     try:
         total = file_epochs(folder / FILES["obs"])
         for epoch in epochs(folder / FILES["log"]):
             marks["few" if epoch.few else "paved"] += 1
             marks["empty"] += epoch.empty
             marks["reach"] += reaches(epoch)
-            if epoch.empty and options.track:
-                ended = f"; the track ends with epoch {epoch.index}, which keeps no box"
+            if ended:  # by an epoch before this one
+                anew.append(ended)
+            ended = epoch.index if epoch.empty and options.track else 0
     except (Error, OSError, ValueError) as error:
         return f"can't be counted: {error}".replace(str(folder) + "/", "")
     there = marks["few"] + marks["paved"]
     return (
         f"{total} in the file, {there} in the log: {marks['paved']} paved, {marks['few']} few,"
-        f" {marks['empty']} empty, {marks['reach']} reach the search box; {total - there} left"
-        f" out{ended}"
+        f" {marks['empty']} empty, {marks['reach']} reach the search box; {total - there} left out"
+        + "".join(f"; the track begins anew behind epoch {index}, which keeps no box" for index in anew)
+        + (f"; the track ends with epoch {ended}, which keeps no box" if ended else "")
     )
 
 

@@ -80,7 +80,9 @@ class Station:
 
 @dataclass(frozen=True)
 class Settings:
-    """All tables. `satellites` has what is added for one satellite, in mm; `speed` is in mm/s."""
+    """All tables. `satellites` has what is added for one satellite, in mm; `speed` is in mm/s, and
+    with `restart` a track begins anew behind an epoch that kept no box.
+    """
 
     search: Search
     signal: Signal
@@ -89,14 +91,16 @@ class Settings:
     speed: int | None = None
     satellites: dict[str, Pair] = field(default_factory=dict)
     station: Station | None = None
+    restart: bool = False
 
     def to_toml(self) -> str:
         """The text of a file of settings."""
         tables = {"search": keys_of(self.search), "signal": keys_of(self.signal)}
         if self.galileo is not None:
             tables["galileo"] = keys_of(self.galileo)
-        if self.speed is not None:
-            tables["motion"] = {"speed": self.speed}
+        motion = {"speed": self.speed, "restart": self.restart or None}
+        if motion := {name: value for name, value in motion.items() if value is not None}:
+            tables["motion"] = motion
         if self.station is not None:
             tables["station"] = keys_of(self.station)
         tables["bounds"] = keys_of(self.bounds)
@@ -208,4 +212,5 @@ def settings_of(tree: dict[str, Any]) -> Settings:
         tables.get("motion", {}).get("speed"),
         {name: pair(value) for name, value in tables.get("satellite", {}).items()},
         station_of(station) if station is not None else None,
+        tables.get("motion", {}).get("restart", False),
     )

@@ -61,7 +61,8 @@ def declared(settings: Settings, seen: Seen, track: bool) -> Iterator[Line]:
         yield "satellites", f"of the log have these added: {'; '.join(own)} m"
     yield "search", f"the receiver was in the earth-fixed box {seen.box_words()}"
     if track and settings.speed is not None:
-        yield "speed", f"at most {metres(settings.speed)} m/s on the straight way from each epoch to the next"
+        pieces = ", in each piece of the track by itself, which ends where no position fits" if settings.restart else ""
+        yield "speed", f"at most {metres(settings.speed)} m/s on the straight way from each epoch to the next{pieces}"
     if settings.station is not None:
         place = settings.station.place
         told = "the position in the header of station.obs" if isinstance(place, str) else " ".join(map(metres, place))

@@ -13,7 +13,7 @@ so, with --csv in a column of its own in a log that may have bounds. A mark behi
   few      too few usable satellites, so the epoch isn't paved
   empty    no position fits: more satellites than allowed broke their bounds, or the receiver was
            outside the box
-  lost     the same in a log of `track`, which ends there
+  lost     the same in a log of `track`, which ends there, or begins anew behind it
   reaches  a kept box lies on the named faces of the search box, so the region may go on outside
 Epochs with a mark are warned of at the end. A log is taken for one of `track` where the search
 boxes of its epochs lie in the
@@ -206,7 +206,7 @@ class Totals:
         self.epochs = 0
         self.marks: Counter[str] = Counter()
         self.first = self.last = 0  # the numbers of epochs
-        self.lost: int | None = None
+        self.lost: list[int] = []  # the numbers of epochs
         self.skips: Counter[SkipReason] = Counter()  # the reasons why satellites of few epochs aren't used
         self.galileo: Counter[SkipReason] = Counter()  # those of Galileo of paved epochs
         self.galileo_used = 0  # how many rows of Galileo satellites there are
@@ -220,7 +220,7 @@ class Totals:
         self.first = self.first or epoch.index
         self.last = epoch.index
         if mark == "lost":
-            self.lost = epoch.index
+            self.lost.append(epoch.index)
         if epoch.few:
             self.skips.update(skip.reason for skip in epoch.skips)
         else:
@@ -237,7 +237,7 @@ class Totals:
         return (
             f"epochs {self.epochs}: {self.regions} with a region, of which"
             f" {self.marks['reaches']} reach the search box; {self.marks['few']} few,"
-            f" {self.marks['empty']} empty" + (f"; lost at epoch {self.lost}" if self.lost else "")
+            f" {self.marks['empty']} empty" + (f"; lost at epoch {', '.join(map(str, self.lost))}" if self.lost else "")
         )
 
     def covered(self, path: PathLike) -> str:
@@ -263,8 +263,8 @@ class Totals:
             yield f"every epoch has too few usable satellites; {self.why_few()}"
         elif few:
             yield f"{few} of {self.epochs} epochs have too few usable satellites; {self.why_few()}"
-        if self.lost is not None:
-            yield f"epoch {self.lost} is lost: {self.what_lost()}"
+        for index in self.lost:
+            yield f"epoch {index} is lost: {self.what_lost(index)}"
         if empty and empty == paved:
             yield f"every paved epoch is empty; {self.why_empty()}"
         elif empty:
@@ -319,12 +319,16 @@ class Totals:
             )
         return "the bounds are too narrow, or the receiver is outside the search box"
 
-    def what_lost(self) -> str:
-        """What a lost epoch says, of which epochs the log speaks, and how to go on."""
-        return (
+    def what_lost(self, index: int) -> str:
+        """What a lost epoch says, of which epochs the log speaks, and how to go on; or that the track begins anew."""
+        what = (
             "no trajectory in the search box keeps the declared speed and bounds up to there, so"
-            " some of them were broken, there or before, and regions before it may be wrong too; a"
-            f" yes of retrack speaks of the log's {self.epochs} epochs alone, {self.first} to"
+            " some of them were broken, there or before, and regions before it may be wrong too; "
+        )
+        if index < self.last:
+            return f"{what}the track begins anew behind it, and a yes of retrack speaks of each piece by itself"
+        return (
+            f"{what}a yes of retrack speaks of the log's {self.epochs} epochs alone, {self.first} to"
             f" {self.last}: go on with --from {self.last + 1}"
         )
 

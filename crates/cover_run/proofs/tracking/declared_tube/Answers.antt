@@ -18,5 +18,6 @@ returns-clause-value c =
       epochs = selected c.args.chosen epochs;
       search = grid_box c.root.result;
       speed = c.declared_speed.result;
+      restart = c.args.inputs.now.settings.restart;
       before = None;
     } in t) c.deref.ensures.value

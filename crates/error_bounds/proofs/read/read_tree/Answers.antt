@@ -31,7 +31,8 @@ returns-clause-settings c = record {
     zenith = c.in_ok-bounds.ensures.zenith;
     vertical = c.in_ok-bounds.ensures.vertical;
     galileo = c.in_ok-galileo.ensures.value;
-    speed = c.in_ok-speed.ensures.value;
+    speed = c.in_ok-speed.ensures.speed;
+    restart = c.in_ok-speed.ensures.restart;
     station = c.in_ok-station.ensures.value;
   };
 }

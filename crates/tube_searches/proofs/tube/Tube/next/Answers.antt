@@ -23,5 +23,6 @@ returns c =
       box = lies_searched (grid_box c.in_ok-root.root) (grid_box self.searches.root) self.searches.search_box c.in_ok-root.ensures.lies;
       same_search = ap grid_box c.in_ok-epoch.ensures.same_root;
       same_speed = refl;
+      same_restart = refl;
       same_before = refl;
     }
