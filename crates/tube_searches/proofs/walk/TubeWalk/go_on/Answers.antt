@@ -11,13 +11,13 @@ pub returns-clause-searches : goal.returns-clause-searches
 returns-clause-searches c = λ blocks.
     let old = tube_value c.args.self.now in
     let epoch = c.args.epoch.now in
-    ap (λ (before : Option Before). tube_searches (record old { before = before }) blocks) c.handed_on.ensures
+    ap (λ (before : Option Before). tube_searches (record old { before = before }) blocks) c.handed_on-self.ensures
     ∙ ap (λ (kept : Option GridBox). tube_searches (with_kept old epoch.tag kept) blocks) (same_option c.args.kept)
 
 pub returns-clause-ready : goal.returns-clause-ready
 returns-clause-ready c = λ lies.
     let self = c.args.self.now in
     let search = grid_box self.searches.root in
-    subst (λ (before : Option Before). IsInsideOf search before) (sym c.handed_on.ensures)
+    subst (λ (before : Option Before). IsInsideOf search before) (sym c.handed_on-self.ensures)
     (handed_inside search self.restart c.args.epoch.now.tag (box_option c.args.kept)
     (subst (λ (kept : Option GridBox). HullLies kept search) (sym (same_option c.args.kept)) lies))
