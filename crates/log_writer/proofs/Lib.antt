@@ -1,4 +1,3 @@
-pub mod BoxLemmas
 pub mod ClockSizes
 pub mod GridSizes
 pub mod StepSizes

@@ -1,16 +1,19 @@
 -- The lines of a block, and a log judged block by block.
 use Rattle.std.proofs.Common.{◌≡◌, ℕ, zero, suc, ◌+◌, ◌<◌, ◌≤◌, arith, List, [], ◌∷◌, length, drop, ap, Option, Some, inl, inr}
+use Rattle.grid_model.specs.Boxes.{GridBox}
 use Rattle.sat_model.specs.declared.rules.Rules.{Rules}
 use Rattle.sat_model.specs.Bounds.{BoundValue, lines_of_bounds}
 use Rattle.sat_model.specs.BoxTests.{test_in}
 use Rattle.sat_model.specs.Cover.{kept_in, kept_boxes_in, kept_boxes}
-use Rattle.sat_model.specs.Events.{Event, Made, Renewed, RowsOver, lines_of_all}
-use Rattle.sat_model.specs.ShownBounds.{IsFirstUnshown}
+use Rattle.sat_model.specs.Events.{Event, Made, Renewed, RowsOver, steps_in, lines_of_all}
+use Rattle.sat_model.specs.KeptHulls.{kept_hull}
+use Rattle.sat_model.specs.MovedFaces.{hull_under}
+use Rattle.sat_model.specs.ShownBounds.{IsFirstUnshownOver}
 use Rattle.sat_model.specs.Stages.{Stage, first_stage, after}
 use Rattle.sat_model.specs.Logs.{Body, Block, LogValue, first_rows, lines_in, IsNumberedFrom}
 use Rattle.sat_model.specs.Renewals.{LineTests, LinesFail, RenewalFails}
 use Rattle.sat_model.specs.declared.rows.Row.{Row}
-use Rattle.sat_model.specs.Fold.{Subpaving}
+use Rattle.sat_model.specs.Fold.{Subpaving, pieces}
 use Rattle.sat_model.specs.Verdicts.{EventsFail, BodyFailsBy, BlockPasses, BlockFails, BlocksPass, BlocksFail, Judged, FirstFault}
 use Rattle.paving_log.proofs.OwnLemmas.{IsBlockAt}
 
@@ -37,19 +40,24 @@ module _ {F : Type 0} (tests : LineTests F) (first : RowsOver) where
   events_within rules done j stage (Renewed new ∷ events) k fault (inr (l, is, passes, f)) =
       omega (arith, is, events_within rules done (suc j) (after stage (Renewed new)) events l fault f)
 
-unshown_within : (q : ℕ) (first : RowsOver) (events : List Event) (bounds : List BoundValue) (k : ℕ)
-    → IsFirstUnshown q first events bounds k → k < lines_of_bounds bounds
-unshown_within q first events [] k f = absurd f
-unshown_within q first events (bound ∷ more) k (inl f) = omega (arith, f.1)
-unshown_within q first events (bound ∷ more) k (inr (shown, (m, is, later))) =
-    omega (arith, is, unshown_within q first events more m later)
+unshown_within : (q : ℕ) (first : RowsOver) (events : List Event) (hull : Option GridBox) (bounds : List BoundValue) (k : ℕ)
+    → IsFirstUnshownOver q first events hull bounds k → k < lines_of_bounds bounds
+unshown_within q first events hull [] k f = absurd f
+unshown_within q first events hull (bound ∷ more) k (inl f) = omega (arith, f.1)
+unshown_within q first events hull (bound ∷ more) k (inr (shown, (m, is, later))) =
+    omega (arith, is, unshown_within q first events (hull_under bound.half hull) more m later)
 
 pub body_within : {F : Type 0} (tests : LineTests F) (rules : Rules) (block : Block) (body : Body) (k : ℕ) (fault : F)
     → BodyFailsBy tests rules block body k fault → k ≤ lines_of_all body.events + lines_of_bounds body.bounds
 body_within tests rules block body k fault (inl f) =
     omega (arith, events_within tests (first_rows block body) rules body.done 0 (first_stage (test_in rules block) body.root) body.events k fault f)
 body_within tests rules block body k fault (inr f) =
-    omega (arith, f.line, unshown_within rules.outliers (first_rows block body) body.events body.bounds f.m f.unshown)
+    omega (
+      arith,
+      f.line,
+      unshown_within rules.outliers (first_rows block body) body.events
+          (kept_hull (pieces body.root (steps_in body.events))) body.bounds f.m f.unshown,
+    )
 
 -- ---- the log, from a block on
 

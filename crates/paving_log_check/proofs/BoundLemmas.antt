@@ -1,6 +1,6 @@
 -- Bounds that are shown hold what fits, and which of them forms over the hull show.
-use Rattle.std.proofs.Common.{◌≡◌, ℕ, ◌+◌, ◌<◌, ◌≤◌, arith, List, [], ◌∷◌, length, map, true, subst, inl, inr, refl, sym, ◌∙◌, Option, None, Some}
-use Rattle.std.specs.Prelude.{ℤ, MatchOption}
+use Rattle.std.proofs.Common.{◌≡◌, ℕ, ◌+◌, ◌<◌, ◌≤◌, arith, List, [], ◌∷◌, length, true, subst, inl, inr, refl, sym, ◌∙◌, Option, None, Some}
+use Rattle.std.specs.Prelude.{ℤ}
 use Rattle.grid_model.specs.Boxes.{GridBox, box_holds}
 use Rattle.grid_model.specs.declared.boxes.Pos.{Pos}
 use Rattle.sat_model.specs.Bounds.{BoundValue, lines_of_bound, lines_of_bounds}
@@ -22,10 +22,8 @@ use Rattle.sat_model.proofs.EpochLemmas.{HullHolds, hull_held}
 use Rattle.sat_model.proofs.FaceLemmas.{held_under}
 use Rattle.sat_model.proofs.LawLemmas.{all_in_half_space}
 use Rattle.sat_model.proofs.VerdictLemmas.{same_box}
-use Rattle.paving_log_check.specs.Answers.{ShowsNoSpans}
 use Rattle.paving_log_check.specs.FileCover.{AreFitBounds}
 use Rattle.paving_log_check.specs.FormBounds.{AreFormsOver}
-use Rattle.paving_log_check.specs.declared.verdict.Fault.{Fault}
 
 -- ---- what fits
 
@@ -61,9 +59,11 @@ module _ (q : ℕ) (first : RowsOver) (events : List Event) (FitsAt : Pos → �
       → AreFitBounds FitsAt first.part bounds
   fit_over hull holds [] shown = tt
   fit_over hull holds (bound ∷ more) shown =
-      let within = fit_bound hull holds bound shown.0 in
-      (within, fit_over (hull_under bound.half hull)
-      (λ p b inside fit. held_under bound.half hull p (holds p b inside fit) (within p b inside fit)) more shown.1)
+      let within = fit_bound hull holds bound shown.0 in (
+        within,
+        fit_over (hull_under bound.half hull)
+            (λ p b inside fit. held_under bound.half hull p (holds p b inside fit) (within p b inside fit)) more shown.1,
+      )
 
   pub fit_bounds : ((p : Pos) (b : ℤ) → box_holds first.part p ≡ true → FitsAt p b → SomeKeeps p b (pieces first.part (steps_in events)))
       → (bounds : List BoundValue) → AreBoundsShown q first events bounds → AreFitBounds FitsAt first.part bounds

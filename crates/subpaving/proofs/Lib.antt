@@ -3,3 +3,4 @@ pub mod LiveLemmas
 pub mod GroupLemmas
 pub mod FoldingLemmas
 pub mod MovedLemmas
+pub mod BoxLemmas

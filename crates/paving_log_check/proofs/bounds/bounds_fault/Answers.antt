@@ -2,12 +2,10 @@ use Rattle.std.proofs.Common.{◌≡◌, ℕ, zero, suc, ◌+◌, ◌<◌, false
 use Rattle.std.specs.Prelude.{MatchOption}
 use Rattle.std.proofs.lemmas.List.{length-map}
 use Rattle.grid_model.specs.Boxes.{GridBox, grid_box}
-use Rattle.row_pairs.specs.FormValues.{form_value}
 use Rattle.sat_model.specs.BoxTests.{test_of}
 use Rattle.sat_model.specs.Events.{rows_over}
 use Rattle.sat_model.specs.Fold.{first_boxes, pieces}
 use Rattle.sat_model.specs.KeptHulls.{kept_hull}
-use Rattle.sat_model.specs.Pairs.{form_of}
 use Rattle.sat_model.specs.Renewals.{AnyLine}
 use Rattle.sat_model.specs.ShownBounds.{AreShownOver, IsFirstUnshownOver}
 use Rattle.sat_model.specs.Stages.{first_stage}
@@ -17,7 +15,6 @@ use Rattle.subpaving.specs.Folding.{StepsFold}
 use Rattle.subpaving.specs.LiveValues.{box_option}
 use Rattle.subpaving.proofs.FoldingLemmas.{steps_fold}
 use Rattle.paving_log.specs.Values.{bound_value, body_value}
-use Rattle.paving_log.specs.declared.log.Bound.{Bound}
 use Rattle.paving_log.proofs.EventLemmas.{steps_in_events}
 use Rattle.paving_log_check.specs.Answers.{ShowsNoSpans}
 use Rattle.paving_log_check.proofs.BoundLemmas.{lasts_few, none_shown}
@@ -55,8 +52,11 @@ first_unshown-found-requires-clause-lasts c =
     let body = c.args.body.now in
     let root = grid_box c.args.root.now in
     let firsts = c.args.firsts.now in
-    omega (arith, c.requires.rows,
-    lasts_few c.args.rules.now body.done (first_stage (test_of c.args.rules.now firsts) root) (rows_over root firsts) (body_value body).events c.requires.passes)
+    omega (
+      arith,
+      c.requires.rows,
+      lasts_few c.args.rules.now body.done (first_stage (test_of c.args.rules.now firsts) root) (rows_over root firsts) (body_value body).events c.requires.passes,
+    )
 
 pub returns : goal.returns
 returns c =

@@ -8,6 +8,6 @@ use Rattle.paving_log_check.proofs.BoundLemmas.{IsOnTheWay}
 use Rattle.paving_log_check.proofs.bounds.first_unshown.Given as goal
 
 abbrev pub invariant-loop-bound : goal.invariant-loop-bound
-invariant-loop-bound l = IsOnTheWay l.q (rows_over (grid_box l.root) l.firsts) (body_value l.body).events (grid_box l.hull_in)
+invariant-loop-bound l = IsOnTheWay l.q (rows_over (grid_box l.root) l.firsts) (body_value l.body).events (grid_box l.fn.hull)
     (body_value l.body).bounds l.line l.next (grid_box l.hull) (map bound_value (drop l.bound-index l.body.bounds.items))
     × AreFormsOver (rows_over (grid_box l.root) l.firsts) (body_value l.body).events (grid_box l.hull) (map form_value l.forms.items)

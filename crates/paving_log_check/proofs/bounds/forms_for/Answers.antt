@@ -1,4 +1,4 @@
-use Rattle.std.proofs.Common.{arith, ap, map, length, inl, inr, sym, ◌∙◌}
+use Rattle.std.proofs.Common.{arith, ap, map, length, sym, ◌∙◌}
 use Rattle.grid_model.specs.Boxes.{grid_box}
 use Rattle.sat_model.specs.Events.{rows_over}
 use Rattle.sat_model.specs.Pairs.{form_of}

@@ -1,5 +1,5 @@
 use Rattle.std.proofs.Common.{sym, ◌∙◌}
-use Rattle.log_writer.proofs.BoxLemmas.{same_coordinates}
+use Rattle.subpaving.proofs.BoxLemmas.{same_coordinates}
 use Rattle.log_writer.proofs.left.Left.narrow.Goals as goal
 
 pub returns-then-eq-clause-hull : goal.returns-then-eq-clause-hull
