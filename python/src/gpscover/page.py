@@ -84,7 +84,7 @@ MARK_WORDS = {
     "empty": (
         "No position fits: more satellites than allowed broke their bounds, or the receiver was outside the search box."
     ),
-    "lost": "The track ends here: no position fits.",
+    "lost": "The track is lost here: no position fits.",
     "reaches": "A kept box lies on the named faces of the search box, so the region may go on outside.",
 }
 
