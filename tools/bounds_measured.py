@@ -9,7 +9,8 @@ pairs. Each run has eight azimuths, pairs, and the settings of its pair but for 
 - Of the six pairs in their modes, all epochs (or the first N of --to), half side 1 km, 8 splits, q = 0, 1 and 2: how
   many epochs are paved and how many of these have ten bounds or more; the bytes of the bounds an epoch; how much
   further the bounds that were asked for lie than the exact ones in every N-th epoch (6), on average and at worst, by
-  tools/certified_table.py; and the yes that `check`, `judge` and the second checker say.
+  tools/certified_table.py, where no corner lies beyond the search box, which cuts bounds and not corners; and the yes
+  that `check`, `judge` and the second checker say.
 - From far: of the four pairs in single mode the first 60 epochs, with the delays mapped by elevation, rows renewed, and
   q = 1, from half sides of 1 and of 100 km: how much further the bounds from 100 km lie, on average and at worst, with
   8 and 64 splits.
@@ -25,7 +26,7 @@ from pathlib import Path
 
 from gpscover.bounded import asked_of, bound_lines
 from gpscover.command import run_tool
-from gpscover.log import epochs
+from gpscover.log import UM_PER_M, epochs
 from tools.certified_table import Exact
 from tools.pairs_table import Failed, ended, setting
 
@@ -88,6 +89,13 @@ def ends_of(values):
     return f"{sum(values) / len(values):.1f}, {max(values):.0f} mm" if values else "none"
 
 
+def is_inside(epoch, exact):
+    """Whether all corners of what the rows of an epoch allow lie in its search box."""
+    centre, corners = exact.of(epoch)
+    ends = [(low / UM_PER_M - at, high / UM_PER_M - at) for low, high, at in zip(epoch.root.low, epoch.root.high, centre)]
+    return all(low <= part <= high for corner in corners for (low, high), part in zip(ends, corner))
+
+
 def print_near(runner, every, options):
     """The table of the bounds themselves."""
     print("| recorded pair | q | paved | ten bounds | bytes an epoch | bounds: mean, worst | all say |\n|" + "---|" * 7)
@@ -98,7 +106,7 @@ def print_near(runner, every, options):
             found, exact = runner.solved(name, text, options), Exact()
             ten = sum(len(epoch.bounds) >= ASKED for epoch in found)
             size = sum(len(line) + 1 for epoch in found for bound in epoch.bounds for line in bound_lines(bound))
-            compared = [epoch for epoch in found[every - 1 :: every] if epoch.kept]
+            compared = [epoch for epoch in found[every - 1 :: every] if epoch.kept and is_inside(epoch, exact)]
             more = [excess for epoch in compared for excess in exact.excesses(epoch, asked_of(epoch))]
             cells = f"{name}, {mode}", outliers, len(found), ten, f"{size / len(found):,.0f}", ends_of(more)
             print("|", " | ".join(map(str, (*cells, runner.yes(name, text, options)))), "|", flush=True)
