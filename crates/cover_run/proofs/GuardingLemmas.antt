@@ -31,12 +31,13 @@ use Rattle.sat_model.specs.declared.rules.Rules.{Rules}
 use Rattle.sat_rows.specs.Fitting.{FitsEpoch}
 use Rattle.sat_rows.specs.Meanings.{Meaning}
 use Rattle.paving_log_check.proofs.OnWayLemmas.{body_folds}
-use Rattle.zone_guard.proofs.KeptLemmas.{holding, in_prism, in_zone, none_holds, none_in_zone, reached}
+use Rattle.zone_guard.proofs.KeptLemmas.{holding, in_group, in_prism, in_zone, none_holds, none_in_group, none_in_zone, reached}
 use Rattle.zone_guard.specs.Bounds.{bound_planes, bounds_of}
 use Rattle.zone_guard.specs.EpochsFound.{AreEpochsFound, AreFindings, IsFoundIn}
 use Rattle.zone_guard.specs.Findings.{IsFinding, corner_box}
+use Rattle.zone_guard.specs.GroupAnswers.{pieces_of}
 use Rattle.zone_guard.specs.Planes.{IsInPrism, PlaneValue}
-use Rattle.zone_guard.specs.Watched.{BoxValue, FormValue, PrismValue, ReachValue, WatchValue}
+use Rattle.zone_guard.specs.Watched.{BoxValue, FormValue, GroupValue, PrismValue, ReachValue, WatchValue}
 use Rattle.zone_guard.specs.WatchValues.{watch_values}
 use Rattle.zone_guard.specs.declared.found.EpochFindings.{EpochFindings}
 use Rattle.zone_guard.specs.declared.found.Finding.{Finding}
@@ -122,6 +123,10 @@ module _ (bounds : List PlaneValue) (parts : List ShownStep) (p : Pos) (b : ℤ)
   true_at (PrismValue sides) (Zone Inside) is keeps = in_prism bounds p within sides (kept_parts parts) is.1 (holding parts p b keeps)
   true_at (PrismValue sides) (Zone Open) is keeps = tt
   true_at (PrismValue sides) (Reach found) is keeps = is
+  true_at (GroupValue m k sides) (Zone Outside) is keeps = λ lies. none_in_group bounds p within (pieces_of m k sides) (kept_parts parts) is lies (holding parts p b keeps)
+  true_at (GroupValue m k sides) (Zone Inside) is keeps = in_group bounds p within (pieces_of m k sides) (kept_parts parts) is.1 (holding parts p b keeps)
+  true_at (GroupValue m k sides) (Zone Open) is keeps = tt
+  true_at (GroupValue m k sides) (Reach found) is keeps = is
   true_at (ReachValue a) (Zone found) is keeps = is
   true_at (ReachValue a) (Reach found) is keeps = reached a found (kept_parts parts) p is (holding parts p b keeps)
 

@@ -11,9 +11,10 @@ use Rattle.sat_rows.specs.Fitting.{FitsEpoch}
 use Rattle.sat_rows.specs.Meanings.{Meaning}
 use Rattle.zone_guard.specs.Counted.{count_of, finding_at, found_at, is_answer, item_at, same_answer}
 use Rattle.zone_guard.specs.Findings.{IsReached, corner_box}
+use Rattle.zone_guard.specs.GroupAnswers.{IsInOne, pieces_of}
 use Rattle.zone_guard.specs.Planes.{IsInPrism, dot}
 use Rattle.zone_guard.specs.Totals.{joined}
-use Rattle.zone_guard.specs.Watched.{BoxValue, FormValue, PrismValue, ReachValue, WatchValue}
+use Rattle.zone_guard.specs.Watched.{BoxValue, FormValue, GroupValue, PrismValue, ReachValue, WatchValue}
 use Rattle.zone_guard.specs.declared.found.EpochFindings.{EpochFindings}
 use Rattle.zone_guard.specs.declared.found.Finding.{Finding}
 use Rattle.zone_guard.specs.declared.found.Finding.TheVariants.{Zone, Reach}
@@ -125,6 +126,10 @@ total_true (BoxValue lo hi) place p epochs some = record {
 total_true (PrismValue sides) place p epochs some = record {
   outside = out_true (PrismValue sides) (IsInPrism sides p) p place (λ answer is. is) (λ found none. none) epochs some;
   inside = in_true (PrismValue sides) (IsInPrism sides p) p place (λ answer is. is) (λ found none. none) epochs some;
+}
+total_true (GroupValue m k sides) place p epochs some = record {
+  outside = out_true (GroupValue m k sides) (IsInOne (pieces_of m k sides) p) p place (λ answer is. is) (λ found none. none) epochs some;
+  inside = in_true (GroupValue m k sides) (IsInOne (pieces_of m k sides) p) p place (λ answer is. is) (λ found none. none) epochs some;
 }
 total_true (ReachValue a) place p epochs some = reach_true None a place p epochs some
 

@@ -10,8 +10,10 @@ use Rattle.sat_rows.specs.Fitting.{FitsEpoch}
 use Rattle.sat_rows.specs.Meanings.{Meaning}
 use Rattle.zone_guard.specs.Counted.{counts_at}
 use Rattle.zone_guard.specs.Findings.{IsReached, corner_box}
+use Rattle.zone_guard.specs.GroupAnswers.{IsInOne, pieces_of}
 use Rattle.zone_guard.specs.Planes.{IsInPrism, dot}
-use Rattle.zone_guard.specs.Watched.{BoxValue, FormValue, PrismValue, ReachValue, WatchValue}
+use Rattle.zone_guard.specs.Watched.{BoxValue, FormValue, GroupValue, PrismValue, ReachValue}
+use Rattle.zone_guard.specs.Watched.{WatchValue}
 use Rattle.zone_guard.specs.declared.found.Counts.{Counts}
 use Rattle.zone_guard.specs.declared.found.EpochFindings.{EpochFindings}
 use Rattle.zone_guard.specs.declared.found.Finding.{Finding}
@@ -34,6 +36,9 @@ IsTrueAt (BoxValue lo hi) (Zone found) p = IsSo found (box_holds (corner_box lo 
 IsTrueAt (BoxValue lo hi) (Reach found) p = ⊥
 IsTrueAt (PrismValue sides) (Zone found) p = IsSo found (IsInPrism sides p)
 IsTrueAt (PrismValue sides) (Reach found) p = ⊥
+IsTrueAt (GroupValue count each sides) (Zone found) p =
+    IsSo found (IsInOne (pieces_of count each sides) p)
+IsTrueAt (GroupValue count each sides) (Reach found) p = ⊥
 IsTrueAt (ReachValue a) (Zone found) p = ⊥
 IsTrueAt (ReachValue a) (Reach found) p = IsReached found (dot a p)
 
@@ -77,6 +82,8 @@ IsTotalTrueAt (BoxValue lo hi) place epochs p =
     IsTotalTrue (counts_at place epochs) (box_holds (corner_box lo hi) p ≡ true)
 IsTotalTrueAt (PrismValue sides) place epochs p =
     IsTotalTrue (counts_at place epochs) (IsInPrism sides p)
+IsTotalTrueAt (GroupValue count each sides) place epochs p =
+    IsTotalTrue (counts_at place epochs) (IsInOne (pieces_of count each sides) p)
 IsTotalTrueAt (ReachValue a) place epochs p = IsReached (reach_from None place epochs) (dot a p)
 
 module _ (m : Meaning) (q : ℕ) where

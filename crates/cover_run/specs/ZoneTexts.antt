@@ -10,7 +10,8 @@ use Rattle.outer_io.specs.declared.failed.Failed.{Failed}
 use Rattle.zone_guard.specs.Counted.{counts_at, finding_at}
 use Rattle.zone_guard.specs.Texts.{counts_text, few_text, finding_text, whole_text}
 use Rattle.zone_guard.specs.Totals.{joined}
-use Rattle.zone_guard.specs.Watched.{BoxValue, FormValue, PrismValue, ReachValue, WatchValue}
+use Rattle.zone_guard.specs.Watched.{BoxValue, FormValue, GroupValue, PrismValue, ReachValue}
+use Rattle.zone_guard.specs.Watched.{WatchValue}
 use Rattle.zone_guard.specs.declared.found.EpochFindings.{EpochFindings}
 use Rattle.zone_guard.specs.declared.found.Finding.{Finding}
 use Rattle.zone_guard.specs.declared.found.Finding.TheVariants.{Zone, Reach}
@@ -60,6 +61,8 @@ reach_from before place (e ∷ epochs) = reach_from (joined before (reach_in pla
 abbrev pub total_of : FormValue → List ℕ → ℕ → List EpochFindings → List ℕ
 total_of (BoxValue lo hi) name place epochs = counts_text name (counts_at place epochs)
 total_of (PrismValue sides) name place epochs = counts_text name (counts_at place epochs)
+total_of (GroupValue count each sides) name place epochs =
+    counts_text name (counts_at place epochs)
 total_of (ReachValue a) name place epochs = whole_text name (reach_from None place epochs)
 
 abbrev pub total_text : ℕ → List EpochFindings → WatchValue → List ℕ

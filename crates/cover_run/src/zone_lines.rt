@@ -122,7 +122,9 @@ fn total_line(watch: &Watch, place: usize, epochs: &[EpochFindings]) -> Line
     ensures { result.bytes ≡ total_text place epochs.now (watch_value watch.now) }
 {
     match &watch.form {
-        Form::Box(_) | Form::Prism(_) => counts_line(&watch.name, &counts_at(epochs, place)),
+        Form::Box(_) | Form::Prism(_) | Form::Group(_) => {
+            counts_line(&watch.name, &counts_at(epochs, place))
+        }
         Form::Reach(_) => whole_line(&watch.name, &reach_over(epochs, place)),
     }
 }

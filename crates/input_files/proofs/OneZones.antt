@@ -13,7 +13,7 @@ use Rattle.log_tokens.specs.Fields.{IsPosWithin, pos_words}
 use Rattle.zone_guard.specs.Lines.{ZoneValue, zone_words}
 use Rattle.zone_guard.specs.Planes.{PlaneValue}
 use Rattle.zone_guard.specs.Text.{lines, IsNewZone, AreZones, AreZonesIn}
-use Rattle.zone_guard.specs.Watched.{Kind, Corners, Sides, Along, KindFits, WatchLine, Named, Side, line_words, IsSide, FormValue, BoxValue, PrismValue, ReachValue, form_lines, WatchValue, watch_lines, zone_watch}
+use Rattle.zone_guard.specs.Watched.{Kind, Corners, Sides, Pieces, Along, KindFits, WatchLine, Named, Side, line_words, IsSide, FormValue, BoxValue, PrismValue, GroupValue, ReachValue, form_lines, WatchValue, watch_lines, zone_watch}
 use Rattle.zone_guard.specs.WatchText.{IsFirstUnfit, IsNextLine, names_with, owed_with, AreWatchLines, AreWatchesIn, IsWatchesText}
 use Rattle.input_files.specs.Zones.{ZonesValue, SpellsZones, NamesUnfit}
 use Rattle.input_files.specs.declared.notice.Notice.{Notice}
@@ -55,13 +55,23 @@ one_named n m (Corners a b) (Corners c d) f g e =
     let both = one_corners a b c d f.lo_within f.hi_within g.lo_within g.hi_within behind in
     record { name = cc; kind = λ i. Corners (both.0 i) (both.1 i) }
 one_named n m (Corners a b) (Sides c) f g e = absurd cc
+one_named n m (Corners a b) (Pieces c d) f g e = absurd cc
 one_named n m (Corners a b) (Along c) f g e = absurd cc
 one_named n m (Sides a) (Corners c d) f g e = absurd cc
 one_named n m (Sides a) (Sides c) f g e =
     record { name = cc; kind = ap Sides (decimal_injective a c (omega (arith, f.1)) (omega (arith, g.1)) cc) }
+one_named n m (Sides a) (Pieces c d) f g e = absurd cc
 one_named n m (Sides a) (Along c) f g e = absurd cc
+one_named n m (Pieces a b) (Corners c d) f g e = absurd cc
+one_named n m (Pieces a b) (Sides c) f g e = absurd cc
+one_named n m (Pieces a b) (Pieces c d) f g e =
+    let count : a ≡ c = decimal_injective a c (omega (arith, f.0.1)) (omega (arith, g.0.1)) cc in
+    let each : b ≡ d = decimal_injective b d (omega (arith, f.1.1)) (omega (arith, g.1.1)) cc in
+    record { name = cc; kind = λ i. Pieces (count i) (each i) }
+one_named n m (Pieces a b) (Along c) f g e = absurd cc
 one_named n m (Along a) (Corners c d) f g e = absurd cc
 one_named n m (Along a) (Sides c) f g e = absurd cc
+one_named n m (Along a) (Pieces c d) f g e = absurd cc
 one_named n m (Along a) (Along c) f g e =
     let behind : pos_words a ++ [] ≡ pos_words c ++ [] = cc in
     record { name = cc; kind = ap Along (one_along a c [] [] f.within g.within behind) }
@@ -106,41 +116,69 @@ record IsOneForm (n m : List ℕ) (f g : FormValue) (xs ys : List WatchLine) : T
   form : f ≡ g
   rest : xs ≡ ys
 
-one_prism : (s t : List PlaneValue) (xs ys : List WatchLine) → length s ≡ length t
-    → map Side s ++ xs ≡ map Side t ++ ys → (s ≡ t) × (xs ≡ ys)
-one_prism [] [] xs ys e f = (refl, f)
-one_prism [] (y ∷ t) xs ys e f = absurd (omega (arith, e))
-one_prism (x ∷ s) [] xs ys e f = absurd (omega (arith, e))
-one_prism (x ∷ s) (y ∷ t) xs ys e f =
+-- the lines of what has a name begin with that name
+named_first : (n : List ℕ) (f : FormValue) (s : PlaneValue) (xs ys : List WatchLine)
+    → form_lines n f ++ xs ≡ Side s ∷ ys → ⊥
+named_first n (BoxValue a b) s xs ys e = cc
+named_first n (PrismValue t) s xs ys e = cc
+named_first n (GroupValue a b t) s xs ys e = cc
+named_first n (ReachValue a) s xs ys e = cc
+
+no_side_first : (ws : List WatchValue) (s : PlaneValue) (ys : List WatchLine)
+    → watch_lines ws ≡ Side s ∷ ys → ⊥
+no_side_first [] s ys e = cc
+no_side_first (w ∷ ws) s ys e = named_first w.name w.form s (watch_lines ws) ys e
+
+-- so sides end where the next name stands
+one_sides : (s t : List PlaneValue) (vs ws : List WatchValue)
+    → map Side s ++ watch_lines vs ≡ map Side t ++ watch_lines ws
+    → (s ≡ t) × (watch_lines vs ≡ watch_lines ws)
+one_sides [] [] vs ws e = (refl, e)
+one_sides [] (y ∷ t) vs ws e = absurd (no_side_first vs y (map Side t ++ watch_lines ws) e)
+one_sides (x ∷ s) [] vs ws e = absurd (no_side_first ws x (map Side s ++ watch_lines vs) (sym e))
+one_sides (x ∷ s) (y ∷ t) vs ws e =
     let head : x ≡ y = cc in
-    let more : map Side s ++ xs ≡ map Side t ++ ys = cc in
-    let rest = one_prism s t xs ys (omega (arith, e)) more in
+    let more : map Side s ++ watch_lines vs ≡ map Side t ++ watch_lines ws = cc in
+    let rest = one_sides s t vs ws more in
     (λ i. head i ∷ rest.0 i, rest.1)
 
-one_form : (n m : List ℕ) (f g : FormValue) (xs ys : List WatchLine)
-    → form_lines n f ++ xs ≡ form_lines m g ++ ys → IsOneForm n m f g xs ys
-one_form n m (BoxValue a b) (BoxValue c d) xs ys e =
+one_form : (n m : List ℕ) (f g : FormValue) (vs ws : List WatchValue)
+    → form_lines n f ++ watch_lines vs ≡ form_lines m g ++ watch_lines ws
+    → IsOneForm n m f g (watch_lines vs) (watch_lines ws)
+one_form n m (BoxValue a b) (BoxValue c d) vs ws e =
     let lo : a ≡ c = cc in
     let hi : b ≡ d = cc in
     record { name = cc; form = λ i. BoxValue (lo i) (hi i); rest = cc }
-one_form n m (BoxValue a b) (PrismValue t) xs ys e = absurd cc
-one_form n m (BoxValue a b) (ReachValue c) xs ys e = absurd cc
-one_form n m (PrismValue s) (BoxValue c d) xs ys e = absurd cc
-one_form n m (PrismValue s) (PrismValue t) xs ys e =
-    let count : length s ≡ length t = cc in
-    let more : map Side s ++ xs ≡ map Side t ++ ys = cc in
-    let both = one_prism s t xs ys count more in
+one_form n m (BoxValue a b) (PrismValue t) vs ws e = absurd cc
+one_form n m (BoxValue a b) (GroupValue c d t) vs ws e = absurd cc
+one_form n m (BoxValue a b) (ReachValue c) vs ws e = absurd cc
+one_form n m (PrismValue s) (BoxValue c d) vs ws e = absurd cc
+one_form n m (PrismValue s) (PrismValue t) vs ws e =
+    let more : map Side s ++ watch_lines vs ≡ map Side t ++ watch_lines ws = cc in
+    let both = one_sides s t vs ws more in
     record { name = cc; form = ap PrismValue both.0; rest = both.1 }
-one_form n m (PrismValue s) (ReachValue c) xs ys e = absurd cc
-one_form n m (ReachValue a) (BoxValue c d) xs ys e = absurd cc
-one_form n m (ReachValue a) (PrismValue t) xs ys e = absurd cc
-one_form n m (ReachValue a) (ReachValue c) xs ys e =
+one_form n m (PrismValue s) (GroupValue c d t) vs ws e = absurd cc
+one_form n m (PrismValue s) (ReachValue c) vs ws e = absurd cc
+one_form n m (GroupValue a b s) (BoxValue c d) vs ws e = absurd cc
+one_form n m (GroupValue a b s) (PrismValue t) vs ws e = absurd cc
+one_form n m (GroupValue a b s) (GroupValue c d t) vs ws e =
+    let count : a ≡ c = cc in
+    let each : b ≡ d = cc in
+    let more : map Side s ++ watch_lines vs ≡ map Side t ++ watch_lines ws = cc in
+    let both = one_sides s t vs ws more in
+    record { name = cc; form = λ i. GroupValue (count i) (each i) (both.0 i); rest = both.1 }
+one_form n m (GroupValue a b s) (ReachValue c) vs ws e = absurd cc
+one_form n m (ReachValue a) (BoxValue c d) vs ws e = absurd cc
+one_form n m (ReachValue a) (PrismValue t) vs ws e = absurd cc
+one_form n m (ReachValue a) (GroupValue c d t) vs ws e = absurd cc
+one_form n m (ReachValue a) (ReachValue c) vs ws e =
     let along : a ≡ c = cc in
     record { name = cc; form = ap ReachValue along; rest = cc }
 
 some_lines : (n : List ℕ) (f : FormValue) (xs : List WatchLine) → [] ≡ form_lines n f ++ xs → ⊥
 some_lines n (BoxValue a b) xs e = cc
 some_lines n (PrismValue s) xs e = cc
+some_lines n (GroupValue a b s) xs e = cc
 some_lines n (ReachValue a) xs e = cc
 
 one_list : (vs ws : List WatchValue) → watch_lines vs ≡ watch_lines ws → vs ≡ ws
@@ -148,7 +186,7 @@ one_list [] [] e = refl
 one_list [] (w ∷ ws) e = absurd (some_lines w.name w.form (watch_lines ws) e)
 one_list (v ∷ vs) [] e = absurd (some_lines v.name v.form (watch_lines vs) (sym e))
 one_list (v ∷ vs) (w ∷ ws) e =
-    let one = one_form v.name w.name v.form w.form (watch_lines vs) (watch_lines ws) e in
+    let one = one_form v.name w.name v.form w.form vs ws e in
     let rest : vs ≡ ws = one_list vs ws one.rest in
     λ i. record { name = one.name i; form = one.form i } ∷ rest i
 

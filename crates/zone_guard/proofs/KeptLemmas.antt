@@ -10,6 +10,7 @@ use Rattle.paving_log.specs.CoverBoxes.{kept_parts}
 use Rattle.zone_guard.specs.Answers.{AreApart, AreParts, IsApartWithin, IsOutOf, faces}
 use Rattle.zone_guard.specs.Beyond.{IsSoOfOne}
 use Rattle.zone_guard.specs.Findings.{IsReached}
+use Rattle.zone_guard.specs.GroupAnswers.{AreOutOfAll, IsInOne, LieInOne, LiesInOne}
 use Rattle.zone_guard.specs.Planes.{PlaneValue, IsInPrism, dot}
 use Rattle.zone_guard.specs.PrismAnswers.{AreShutOut, AreEnclosed}
 use Rattle.zone_guard.specs.Reaches.{AreHolding, IsReach}
@@ -56,6 +57,26 @@ module _ (bounds : List PlaneValue) (p : Pos) (within : IsInPrism bounds p) wher
   in_prism sides [] all h = absurd h
   in_prism sides (c ∷ boxes) all (inl here) = in_point bounds sides c p all.0 here within
   in_prism sides (c ∷ boxes) all (inr later) = in_prism sides boxes all.1 later
+
+  -- ---- a group
+
+  pub none_in_group : (pieces : List (List PlaneValue)) (boxes : List GridBox)
+      → AreOutOfAll bounds pieces boxes → IsInOne pieces p → AreHolding boxes p → ⊥
+  none_in_group [] boxes out inside h = absurd inside
+  none_in_group (sides ∷ pieces) boxes out (inl here) h = none_holds sides boxes out.0 here h
+  none_in_group (sides ∷ pieces) boxes out (inr later) h = none_in_group pieces boxes out.1 later h
+
+  point_in_one : (pieces : List (List PlaneValue)) (c : GridBox) → LiesInOne bounds pieces c
+      → box_holds c p ≡ true → IsInOne pieces p
+  point_in_one [] c lies held = absurd lies
+  point_in_one (sides ∷ pieces) c (inl here) held = inl (in_point bounds sides c p here held within)
+  point_in_one (sides ∷ pieces) c (inr later) held = inr (point_in_one pieces c later held)
+
+  pub in_group : (pieces : List (List PlaneValue)) (boxes : List GridBox)
+      → LieInOne bounds pieces boxes → AreHolding boxes p → IsInOne pieces p
+  in_group pieces [] all h = absurd h
+  in_group pieces (c ∷ boxes) all (inl here) = point_in_one pieces c all.0 here
+  in_group pieces (c ∷ boxes) all (inr later) = in_group pieces boxes all.1 later
 
   -- ---- a zone that is a box
 

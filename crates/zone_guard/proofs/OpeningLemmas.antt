@@ -3,7 +3,7 @@ use Rattle.std.proofs.Common.{◌≡◌, ℕ, List, []}
 use Rattle.std.specs.Prelude.{codes}
 use Rattle.zone_guard.specs.Lines.{ZoneValue}
 use Rattle.zone_guard.specs.Names.{CornersFit, corner_words}
-use Rattle.zone_guard.specs.Watched.{Kind, Corners, Sides, Along, KindFits, kind_word, kind_words}
+use Rattle.zone_guard.specs.Watched.{Kind, Corners, Sides, Pieces, Along, KindFits, kind_word, kind_words}
 
 -- no corners are those of a zone, where none are read
 pub no_corners : (line : List (List ℕ))
@@ -12,4 +12,5 @@ pub no_corners : (line : List (List ℕ))
 no_corners line none first (Corners lo hi) zone fits is spelled =
     none (record { name = []; lo = lo; hi = hi }) (record { lo_within = fits.lo_within; hi_within = fits.hi_within; x_ordered = fits.x_ordered; y_ordered = fits.y_ordered; z_ordered = fits.z_ordered }) spelled
 no_corners line none first (Sides count) zone fits is spelled = absurd cc
+no_corners line none first (Pieces count each) zone fits is spelled = absurd cc
 no_corners line none first (Along a) zone fits is spelled = absurd cc

@@ -7,7 +7,7 @@ use Rattle.log_tokens.specs.Words.{words}
 use Rattle.zone_guard.specs.Planes.{PlaneValue, plane_value, plane_values}
 use Rattle.zone_guard.specs.Text.{lines}
 use Rattle.zone_guard.specs.Told.{IsToldIn}
-use Rattle.zone_guard.specs.Watched.{Kind, Corners, Sides, Along, KindFits, WatchLine, Named, Side, LineFits, line_words, IsSide, FormValue, BoxValue, PrismValue, ReachValue, form_lines, watch_lines}
+use Rattle.zone_guard.specs.Watched.{Kind, Corners, Sides, Pieces, Along, KindFits, WatchLine, Named, Side, LineFits, line_words, IsSide, FormValue, BoxValue, PrismValue, GroupValue, ReachValue, form_lines, watch_lines}
 use Rattle.zone_guard.specs.WatchLeads.{Leads, later_lines, form_kind}
 use Rattle.zone_guard.specs.WatchText.{IsDue, IsNextLine, names_with, owed_for, owed_with, AreWatchLines, FailsAt}
 use Rattle.zone_guard.specs.WatchValues.{watch_values, watch_names, form_value}
@@ -30,12 +30,22 @@ one_kind : (k l : Kind) (n m : List ℕ) → KindFits k → KindFits l
     → line_words (Named n k) ≡ line_words (Named m l) → owed_for k ≡ owed_for l
 one_kind (Corners a b) (Corners c d) n m f g e = refl
 one_kind (Corners a b) (Sides c) n m f g e = absurd cc
+one_kind (Corners a b) (Pieces c d) n m f g e = absurd cc
 one_kind (Corners a b) (Along c) n m f g e = absurd cc
 one_kind (Sides a) (Corners c d) n m f g e = absurd cc
 one_kind (Sides a) (Sides c) n m f g e = decimal_injective a c (omega (arith, f.1)) (omega (arith, g.1)) cc
+one_kind (Sides a) (Pieces c d) n m f g e = absurd cc
 one_kind (Sides a) (Along c) n m f g e = absurd cc
+one_kind (Pieces a b) (Corners c d) n m f g e = absurd cc
+one_kind (Pieces a b) (Sides c) n m f g e = absurd cc
+one_kind (Pieces a b) (Pieces c d) n m f g e =
+    let count = decimal_injective a c (omega (arith, f.0.1)) (omega (arith, g.0.1)) cc in
+    let each = decimal_injective b d (omega (arith, f.1.1)) (omega (arith, g.1.1)) cc in
+    cc (count, each)
+one_kind (Pieces a b) (Along c) n m f g e = absurd cc
 one_kind (Along a) (Corners c d) n m f g e = absurd cc
 one_kind (Along a) (Sides c) n m f g e = absurd cc
+one_kind (Along a) (Pieces c d) n m f g e = absurd cc
 one_kind (Along a) (Along c) n m f g e = refl
 
 one_state : (names : List (List ℕ)) (owed : ℕ) (line : List ℕ) (l k : WatchLine)
@@ -201,6 +211,7 @@ lines_of_form : (name : List ℕ) (form : FormValue)
     → form_lines name form ≡ Named name (form_kind form) ∷ later_lines form
 lines_of_form name (BoxValue lo hi) = refl
 lines_of_form name (PrismValue sides) = refl
+lines_of_form name (GroupValue count each sides) = refl
 lines_of_form name (ReachValue a) = refl
 
 pub no_opening : (names : List (List ℕ)) (here : List ℕ)

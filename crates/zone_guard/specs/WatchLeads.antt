@@ -1,7 +1,7 @@
 -- Lines of the second form one behind another. No public clause cites it.
 use Rattle.std.specs.Prelude.{ℕ, List, [], ◌++◌, map, length}
-use Rattle.zone_guard.specs.Watched.{WatchLine, Side, Kind, Corners, Sides, Along, FormValue}
-use Rattle.zone_guard.specs.Watched.{BoxValue, PrismValue, ReachValue}
+use Rattle.zone_guard.specs.Watched.{WatchLine, Side, Kind, Corners, Sides, Pieces, Along, FormValue}
+use Rattle.zone_guard.specs.Watched.{BoxValue, PrismValue, GroupValue, ReachValue}
 use Rattle.zone_guard.specs.WatchText.{AreWatchLines, FailsAt}
 
 -- lines lead from one state of the reading to another
@@ -17,9 +17,11 @@ pub record Leads (names : List (List ℕ)) (owed number : ℕ) (text : List (Lis
 abbrev pub later_lines : FormValue → List WatchLine
 later_lines (BoxValue lo hi) = []
 later_lines (PrismValue sides) = map Side sides
+later_lines (GroupValue count each sides) = map Side sides
 later_lines (ReachValue a) = []
 
 abbrev pub form_kind : FormValue → Kind
 form_kind (BoxValue lo hi) = Corners lo hi
 form_kind (PrismValue sides) = Sides (length sides)
+form_kind (GroupValue count each sides) = Pieces count each
 form_kind (ReachValue a) = Along a

@@ -1,17 +1,17 @@
 -- A text of the second form, and its first line that doesn't fit.
-use Rattle.std.specs.Prelude.{◌≡◌, ◌≢◌, ◌⊎◌, ℕ, zero, suc, ◌+◌, ◌-◌, Bool, true, false, List, []}
-use Rattle.std.specs.Prelude.{◌∷◌, ◌++◌, map, codes}
+use Rattle.std.specs.Prelude.{◌≡◌, ◌≢◌, ◌⊎◌, ℕ, zero, suc, ◌+◌, ◌-◌, ◌*◌, Bool, true, false, List}
+use Rattle.std.specs.Prelude.{[], ◌∷◌, ◌++◌, map, codes}
 use Rattle.std.specs.List.{Contains}
 use Rattle.log_tokens.specs.Words.{words}
 use Rattle.zone_guard.specs.Lines.{ZoneValue}
 use Rattle.zone_guard.specs.Text.{lines, IsZonesText, IsFirstBad}
-use Rattle.zone_guard.specs.Watched.{Kind, WatchLine, Named, Side, Corners, Sides, Along, LineFits}
-use Rattle.zone_guard.specs.Watched.{line_words, WatchValue, watch_lines, zone_watch}
+use Rattle.zone_guard.specs.Watched.{Kind, WatchLine, Named, Side, Corners, Sides, Pieces, Along}
+use Rattle.zone_guard.specs.Watched.{LineFits, line_words, WatchValue, watch_lines, zone_watch}
 
 abbrev pub second_line : List ℕ
 second_line = codes "gpszones 2"
 
--- where sides of a prism are owed one comes, and else a name that isn't among these
+-- where sides are owed one comes, and else a name that isn't among these
 abbrev pub IsDue : (names : List (List ℕ)) → (owed : ℕ) → WatchLine → Type 0
 IsDue names zero (Named name kind) = Contains names name → ⊥
 IsDue names zero (Side s) = ⊥
@@ -26,6 +26,7 @@ names_with names (Side s) = names
 abbrev pub owed_for : Kind → ℕ
 owed_for (Corners lo hi) = 0
 owed_for (Sides count) = count
+owed_for (Pieces count each) = count * each
 owed_for (Along a) = 0
 
 -- how many sides are owed behind a line

@@ -9,11 +9,12 @@ use Rattle.zone_guard.specs.Planes.{PlaneValue}
 
 -- ---- lines
 
--- what a line with a name is of: a box by its corners, a prism by the number of its sides, or a
--- direction
+-- what a line with a name is of: a box by its corners, a prism by the number of its sides, a group by
+-- that of its pieces and of the sides of each, or a direction
 pub data Kind : Type 0 where
   Corners : Pos → Pos → Kind
   Sides : ℕ → Kind
+  Pieces : (count each : ℕ) → Kind
   Along : Pos → Kind
 
 pub data WatchLine : Type 0 where
@@ -36,6 +37,7 @@ pub record IsDirection (a : Pos) : Type 0 where
 abbrev pub KindFits : Kind → Type 0
 KindFits (Corners lo hi) = AreCorners lo hi
 KindFits (Sides count) = IsCountFromTo 1 16 count
+KindFits (Pieces count each) = IsCountFromTo 1 64 count × IsCountFromTo 1 16 each
 KindFits (Along a) = IsDirection a
 
 pub record IsSide (s : PlaneValue) : Type 0 where
@@ -45,12 +47,14 @@ pub record IsSide (s : PlaneValue) : Type 0 where
 abbrev pub kind_word : Kind → List ℕ
 kind_word (Corners lo hi) = codes "zone"
 kind_word (Sides count) = codes "prism"
+kind_word (Pieces count each) = codes "group"
 kind_word (Along a) = codes "reach"
 
 -- the words behind the name
 abbrev pub kind_words : Kind → List (List ℕ)
 kind_words (Corners lo hi) = pos_words lo ++ pos_words hi
 kind_words (Sides count) = decimal count ∷ []
+kind_words (Pieces count each) = decimal count ∷ decimal each ∷ []
 kind_words (Along a) = pos_words a
 
 -- the words behind the first
@@ -70,16 +74,19 @@ line_words (Side s) = codes "side" ∷ side_words s
 pub data FormValue : Type 0 where
   BoxValue : Pos → Pos → FormValue
   PrismValue : List PlaneValue → FormValue
+  GroupValue : (count each : ℕ) → List PlaneValue → FormValue
   ReachValue : Pos → FormValue
 
 pub record WatchValue : Type 0 where
   pub name : List ℕ
   pub form : FormValue
 
--- one line, and behind that of a prism one for each side
+-- one line, and behind that of a prism or a group one for each side
 abbrev pub form_lines : List ℕ → FormValue → List WatchLine
 form_lines name (BoxValue lo hi) = Named name (Corners lo hi) ∷ []
 form_lines name (PrismValue sides) = Named name (Sides (length sides)) ∷ map Side sides
+form_lines name (GroupValue count each sides) =
+    Named name (Pieces count each) ∷ map Side sides
 form_lines name (ReachValue a) = Named name (Along a) ∷ []
 
 abbrev pub watch_lines : List WatchValue → List WatchLine

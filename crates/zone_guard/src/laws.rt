@@ -8,6 +8,7 @@ ghost use Rattle.grid_model.specs.declared.boxes.Pos.{Pos};
 ghost use Rattle.paving_log.specs.CoverBoxes.{kept_parts};
 ghost use Rattle.zone_guard.specs.Answers.{AreApart, AreParts};
 ghost use Rattle.zone_guard.specs.Findings.{IsReached};
+ghost use Rattle.zone_guard.specs.GroupAnswers.{AreOutOfAll, IsInOne, LieInOne};
 ghost use Rattle.zone_guard.specs.Planes.{PlaneValue, IsInPrism, dot};
 ghost use Rattle.zone_guard.specs.PrismAnswers.{AreShutOut, AreEnclosed};
 ghost use Rattle.zone_guard.specs.Reaches.{IsReach};
@@ -29,6 +30,13 @@ pub fn prism_outside_is_out()
         → IsInPrism bounds p → ⊥ }
 {}
 
+/// The same for a group: no such point lies in any of its pieces.
+pub fn group_outside_is_out()
+    ensures { (bounds : List PlaneValue) (pieces : List (List PlaneValue))
+        (parts : List ShownStep) (p : Pos) (b : ℤ) → AreOutOfAll bounds pieces (kept_parts parts)
+        → IsInOne pieces p → SomeKeeps p b parts → IsInPrism bounds p → ⊥ }
+{}
+
 /// The law: where what the bounds leave of each kept box lies in a zone, each point within the bounds
 /// that one of the boxes keeps does.
 pub fn inside_is_in()
@@ -38,6 +46,14 @@ pub fn inside_is_in()
     ensures prism { (bounds sides : List PlaneValue) (parts : List ShownStep) (p : Pos) (b : ℤ)
         → AreEnclosed bounds sides (kept_parts parts) → SomeKeeps p b parts
         → IsInPrism bounds p → IsInPrism sides p }
+{}
+
+/// The same for a group, where it lies in one of the pieces for each box: each such point lies in one
+/// of them.
+pub fn group_inside_is_in()
+    ensures { (bounds : List PlaneValue) (pieces : List (List PlaneValue))
+        (parts : List ShownStep) (p : Pos) (b : ℤ) → LieInOne bounds pieces (kept_parts parts)
+        → SomeKeeps p b parts → IsInPrism bounds p → IsInOne pieces p }
 {}
 
 /// The law: the product of a direction and a point that a kept box keeps lies between the ends of

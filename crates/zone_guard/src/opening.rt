@@ -1,5 +1,6 @@
 //! What a line with a name says.
 
+use crate::pieces::Sizes;
 use crate::planes::Direction;
 use arrayvec::ArrayString;
 use grid_model::Box3;
@@ -11,6 +12,8 @@ pub enum OpeningKind {
     Box(Box3),
     /// How many sides of a prism follow.
     Prism(u32),
+    /// How many pieces follow, and how many sides of each.
+    Group(Sizes),
     /// A direction.
     Reach(Direction),
 }

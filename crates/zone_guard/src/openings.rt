@@ -13,6 +13,7 @@ ghost use Rattle.zone_guard.specs.WatchValues.{kind_value, opening_line};
 use crate::names::name_of;
 use crate::numbers::limit_of;
 use crate::opening::{Opening, OpeningKind};
+use crate::pieces::Sizes;
 use crate::planes::{Direction, HalfSpace};
 use crate::reading::box_of;
 use log_tokens::{Rest, count, is_ended, place, word};
@@ -20,7 +21,10 @@ use log_tokens::{Rest, count, is_ended, place, word};
 /// The greatest amount of a coordinate of a direction: 2^20.
 const LONGEST: u64 = 1_048_576;
 
-/// The most sides of a prism.
+/// The most pieces of a group.
+const MOST_PIECES: u32 = 64;
+
+/// The most sides of a prism, and of a piece.
 const MOST_SIDES: u32 = 16;
 
 /// A direction at the front of the rest, and what is left after it.
@@ -65,6 +69,21 @@ fn sides_of(rest: Rest<'_>) -> Option<u32>
     Some(sides)
 }
 
+/// The numbers of pieces and of the sides of each that are the rest of a line.
+fn sizes_of(rest: Rest<'_>) -> Option<Sizes>
+    ensures found { IfSome result (λ s. words_left rest.entry ≡ decimal s.pieces ∷ decimal s.each
+        ∷ []) }
+    ensures none { IfNone result ((m k : ℕ) → IsCountFromTo 1 64 m → IsCountFromTo 1 16 k
+        → words_left rest.entry ≡ decimal m ∷ decimal k ∷ [] → ⊥) }
+{
+    let (pieces, rest) = count(rest, 1, MOST_PIECES)?;
+    let (each, rest) = count(rest, 1, MOST_SIDES)?;
+    if !is_ended(rest) {
+        return None;
+    }
+    Some(Sizes { pieces, each })
+}
+
 /// The first word and what stands behind the name of a line.
 fn kind_of(first: &[u8], rest: Rest<'_>) -> Option<OpeningKind>
     ensures found { IfSome result (λ k. KindFits (kind_value k)
@@ -80,6 +99,10 @@ fn kind_of(first: &[u8], rest: Rest<'_>) -> Option<OpeningKind>
     if first == b"prism".as_slice() {
         let count = sides_of(rest)?;
         return Some(OpeningKind::Prism(count));
+    }
+    if first == b"group".as_slice() {
+        let sizes = sizes_of(rest)?;
+        return Some(OpeningKind::Group(sizes));
     }
     if first == b"reach".as_slice() {
         let along = reach_of(rest)?;

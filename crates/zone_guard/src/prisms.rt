@@ -26,7 +26,7 @@ fn is_shut_out(bounds: &[HalfSpace], sides: &[HalfSpace], part: &Box3) -> bool
 }
 
 /// Whether it lies behind each of the planes.
-fn is_enclosed(bounds: &[HalfSpace], sides: &[HalfSpace], part: &Box3) -> bool
+pub fn is_enclosed(bounds: &[HalfSpace], sides: &[HalfSpace], part: &Box3) -> bool
     ensures { IsTrue result
         ↔ IsEnclosed (plane_values bounds.now) (plane_values sides.now) (grid_box part.now) }
 {
@@ -39,7 +39,7 @@ fn is_enclosed(bounds: &[HalfSpace], sides: &[HalfSpace], part: &Box3) -> bool
 }
 
 /// Whether what the bounds leave of each box lies beyond one of the planes.
-fn are_shut_out(bounds: &[HalfSpace], sides: &[HalfSpace], boxes: &[Box3]) -> bool
+pub fn are_shut_out(bounds: &[HalfSpace], sides: &[HalfSpace], boxes: &[Box3]) -> bool
     ensures { IsTrue result
         ↔ AreShutOut (plane_values bounds.now) (plane_values sides.now) (map grid_box boxes.now) }
 {

@@ -1,5 +1,6 @@
 //! What a file of zones names.
 
+use crate::pieces::Group;
 use crate::planes::{Direction, HalfSpace};
 use arrayvec::ArrayString;
 use grid_model::Box3;
@@ -11,6 +12,8 @@ pub enum Form {
     Box(Box3),
     /// A zone: the grid points that lie in each of some half-spaces.
     Prism(Vec<HalfSpace>),
+    /// A zone: the grid points of each of some pieces, which are prisms.
+    Group(Group),
     /// A direction, along which the reach of the boxes is told.
     Reach(Direction),
 }

@@ -79,8 +79,9 @@ fn read_either(alloc: Global, bytes: &[u8]) -> Result<Watches, ZoneError>
 
 /// Reads zones and directions from their text. Its first line is `gpszones 2`, and each later one
 /// `zone NAME` with the low and the high corner of a box, `prism NAME K`, behind which K lines
-/// `side AX AY AZ H` follow, or `reach NAME AX AY AZ`. Each line has an LF, and no two have one
-/// name. A text with another first line is read as `read_zones` reads it.
+/// `side AX AY AZ H` follow, `group NAME M K` with those of M such prisms one behind another, or
+/// `reach NAME AX AY AZ`. Each line has an LF, and no two have one name. A text with another first
+/// line is read as `read_zones` reads it.
 pub fn read_watches(alloc: Global, bytes: &[u8]) -> Result<Watches, ZoneError>
     requires { length bytes.now ≤ 4000000000 }
     // What is read has this text.

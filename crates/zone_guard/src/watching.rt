@@ -13,13 +13,14 @@ ghost use Rattle.zone_guard.specs.WatchValues.{form_value, kind_value, watch_nam
 use crate::names::is_name_taken;
 use crate::opening::OpeningKind;
 use crate::openings::{opening_of, side_of};
+use crate::pieces::Group;
 use crate::planes::HalfSpace;
 use crate::reading::line;
 use crate::watch::{Form, Watch};
 use crate::zone::ZoneError;
 use std::alloc::Global;
 
-/// The sides of a prism, so many, from the line of this number on, and what stands behind them.
+/// The sides of a prism or a group, so many, from the line of this number on, and what stands behind them.
 fn sides_in(
     alloc: Global,
     text: &[u8],
@@ -77,6 +78,15 @@ fn form_of<'a>(
         OpeningKind::Prism(count) => {
             let (sides, left) = sides_in(alloc, text, number, *count)?;
             Ok((Form::Prism(sides), left, number + *count))
+        }
+        OpeningKind::Group(sizes) => {
+            let count = sizes.pieces * sizes.each;
+            let (sides, left) = sides_in(alloc, text, number, count)?;
+            let group = Group {
+                sizes: *sizes,
+                sides,
+            };
+            Ok((Form::Group(group), left, number + count))
         }
     }
 }
