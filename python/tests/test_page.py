@@ -21,7 +21,7 @@ import pytest
 from made_logs import EXAMPLES, RECORDED, ended_with
 
 from gpscover import Error, geodesy, page, region, summary, zones
-from gpscover.beside import Beside, ring_of
+from gpscover.beside import Beside, rings_of
 from gpscover.log import Rules, calendar
 from gpscover.log import epochs as read_epochs
 from gpscover.outline import outline
@@ -204,13 +204,15 @@ class TestParts:
 
     def test_the_outline_of_a_zone_on_the_ground(self):
         around = zones.Corners("a", (AT - SIDE, -SIDE, -2 * SIDE), (AT + SIDE, SIDE, 2 * SIDE))
-        ring = ring_of(around)
+        (ring,) = rings_of(around)
         # 10 m and 20 m along the equator and the meridian, on an ellipsoid of 6378137 m and 6335439.327 m there
         east, north = (math.degrees(length / radius) for length, radius in ((10, 6378127), (20, 6335429.327)))
         assert max(longitude for _, longitude in ring) == pytest.approx(east, rel=0, abs=1e-9)
         assert max(latitude for latitude, _ in ring) == pytest.approx(north, rel=0, abs=1e-9)
         assert len(ring) == 4
-        assert ring_of(zones.Prism("b", [((0, 1, 0), 0)])) == []
+        assert rings_of(zones.Prism("b", [((0, 1, 0), 0)])) == []
+        # a group has an outline for each piece with corners
+        assert rings_of(zones.Group("c", [around.faces(), [((0, 1, 0), 0)], around.faces()])) == [ring, ring]
 
     def test_the_azimuth(self):
         place = geodesy.earth_fixed(0.6, 2.4, 100.0)

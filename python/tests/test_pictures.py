@@ -104,9 +104,9 @@ class TestPicturedZones:
     def test_their_outlines_and_counts(self):
         found = self.fenced(TUBE + LOST + "few 4 895816774999000000000 3\n")
         # Round the middle of the first region, at y = 25 m and z = 0: y is east, z is north.
-        ring = found.ring_of(found.fences[0])
+        (ring,) = found.rings_of(found.fences[0])
         assert {(round(x), round(y)) for x, y in ring} == {(x, y) for x in (-45, -5) for y in (-30, 30)}
-        assert found.ring_of(found.fences[1]) == []
+        assert found.rings_of(found.fences[1]) == []
         # The first box shares the face y = 20 m with a, the second holds a part of it, and in the
         # third epoch there is none.
         assert found.title(0) == "a: outside 1, inside 0, open 2, few 1"

@@ -1,6 +1,6 @@
 """Zones by exact fractions and by all corners, and what the program says of them.
 
-Its `guard` has to print what `gpslog answers` does, of a thousand drawn zones, prisms and
+Its `guard` has to print what `gpslog answers` does, of a thousand drawn zones, prisms, groups and
 directions on a solved and a tracked log of examples/vehicle.obs, on one with bounds, and of zones that
 are made.
 """
@@ -76,15 +76,18 @@ def said(*words):
 
 
 def prisms(lines):
-    """The prisms of some lines: lists of sides (A, H)."""
-    found = []
+    """The prisms of some lines, and the pieces of groups: lists of sides (A, H)."""
+    found, each = [], 0
     for line in lines:
         word, *rest = line.split()
-        if word == "prism":
-            found.append([])
-        elif word == "side":
+        if word == "side":
             x, y, z, most = map(int, rest)
+            if len(found[-1]) == each:
+                found.append([])
             found[-1].append(((x, y, z), most))
+        elif word in ("prism", "group"):
+            found.append([])
+            each = int(rest[-1])
     return found
 
 
@@ -121,17 +124,23 @@ def left(box, bound):
     return corners
 
 
-def bounded_answer(sides, boxes, bounds):
-    """What boxes say of a prism, each as far as it lies within one bound or none, by all corners of that."""
+def bounded_answer(pieces, boxes, bounds):
+    """What boxes say of pieces, each as far as it lies within one bound or none, by all corners of that."""
     every = ((0, 0, 0), 0)
     parts = [[left(box, bound) for bound in (every, *bounds)] for box in boxes]
 
     def some(of, test):
         return any(all(map(test, corners)) for corners in of)
 
-    if all(any(some(of, lambda p, a=a, h=h: dot(a, p) > h) for a, h in sides) for of in parts):
+    def lies_out(of, sides):
+        return any(some(of, lambda p, a=a, h=h: dot(a, p) > h) for a, h in sides)
+
+    def lies_in(of, sides):
+        return all(some(of, lambda p, a=a, h=h: dot(a, p) < h + 1) for a, h in sides)
+
+    if all(lies_out(of, sides) for sides in pieces for of in parts):
         return "outside"
-    if all(some(of, lambda p, a=a, h=h: dot(a, p) < h + 1) for of in parts for a, h in sides):
+    if all(any(lies_in(of, sides) for sides in pieces) for of in parts):
         return "inside"
     return "open"
 
@@ -230,13 +239,43 @@ class TestAreas:
                         held = any(holds(part, point) for part in parts)
                         assert held or (share and near), (number, share, height)
 
-    def test_for_inside_it_must_be_convex(self):
+    def test_an_area_that_is_not_convex_is_one_zone_of_its_parts(self):
         square = [(47.0, 8.0), (47.0, 8.001), (47.001, 8.001), (47.001, 8.0)]
-        (sides,) = prisms(shapes.area_lines("a", square, 0.0, 20.0, "inside"))
-        assert len(sides) == 6
-        with pytest.raises(shapes.ShapeError):
-            shapes.area_lines("a", [*square, (47.0005, 8.0005)], 0.0, 20.0, "inside")
-        assert len(prisms(shapes.area_lines("a", [*square, (47.0005, 8.0005)], 0.0, 20.0, "outside"))) == 2
+        notched = [*square, (47.0005, 8.0005)]
+        for purpose in ("outside", "inside"):
+            assert shapes.area_lines("a", square, 0.0, 20.0, purpose, parts=True)[0] == "prism a 6"
+        # for outside the two parts have sides more, and both have as many
+        (head, *sides) = shapes.area_lines("a", notched, 0.0, 20.0, "outside")
+        apart = shapes.area_lines("a", notched, 0.0, 20.0, "outside", parts=True)
+        each = len(sides) // 2
+        assert head == f"group a 2 {each}"
+        assert [line.split()[:2] for line in apart if line.startswith("prism")] == [["prism", "a-1"], ["prism", "a-2"]]
+        assert [set(piece) for piece in prisms([head, *sides])] == [set(part) for part in prisms(apart)]
+        # for inside a part has a face for each edge of its own, a floor and a lid
+        assert shapes.area_lines("a", notched, 0.0, 20.0, "inside")[0] == "group a 2 6"
+        with pytest.raises(
+            shapes.ShapeError, match="a: for inside by parts it must be convex, with at most 14 corners"
+        ):
+            shapes.area_lines("a", notched, 0.0, 20.0, "inside", parts=True)
+
+    def test_parts_of_drawn_polygons_for_inside_lie_in_them(self):
+        shapely = pytest.importorskip("shapely.geometry")
+        draw, several = random.Random(12), 0
+        for number in range(60):
+            ring = self.ring(draw, draw.randint(4, 8))
+            try:
+                parts = prisms(shapes.area_lines("a", ring, 100.0, 130.0, "inside"))
+            except shapes.ShapeError:
+                continue
+            around = [(math.radians(p[0]), math.radians(p[1])) for p in ring]
+            ground = shapes.Ground(*(sum(p[k] for p in around) / len(around) for k in (0, 1)))
+            flat = shapely.Polygon([ground.local(*p, 0.0)[:2] for p in around])
+            for x, y, z, divisor in (corner for sides in parts for corner in shapes.corners(sides)):
+                point = [float(Fraction(part, divisor) / shapes.UM) for part in (x, y, z)]
+                east, north, _ = ground.offset(point)
+                assert flat.distance(shapely.Point(east, north)) < 0.1, number  # as edges at two heights are apart
+            several += len(parts) > 1
+        assert several > 20
 
     def drawn_flat(self, draw):
         """A polygon in a plane, star-shaped, in m."""
@@ -365,7 +404,7 @@ class TestAnswers:
                 turn = draw.choice((1, -1))
                 sides[0] = tuple(turn * k for k in d), turn * most + draw.choice((-1, 0, 1))
             flat = [(*lo, *hi) for lo, hi in boxes]
-            wanted = bounded_answer(sides, boxes, bounds)
+            wanted = bounded_answer([sides], boxes, bounds)
             assert zones.Prism("a", sides).answer(flat, bounds) == wanted, (number, sides, boxes, bounds)
             said.add((bool(bounds), wanted, wanted != zones.Prism("a", sides).answer(flat)))
         assert {(True, "outside", True), (True, "inside", True), (True, "open", False)} <= said
@@ -390,8 +429,48 @@ class TestAnswers:
                 by_faces = zones.Prism("a", box.faces()).answer(flat, bounds)
                 assert by_faces == "outside" or box.answer(flat, bounds) == by_faces
 
+    def test_a_thousand_drawn_groups_answer_as_all_corners_of_their_pieces_do(self):
+        draw, said = random.Random(11), set()
+        for number in range(DRAWN):
+            boxes = drawn_boxes(draw, 3)
+
+            def plane(most):
+                a = tuple(draw.choice((-2, -1, 0, 0, 1, 2)) for _ in range(3))
+                return (a if any(a) else (0, 1, 0)), draw.randint(-2, most)
+
+            pieces = [[plane(9) for _ in range(draw.randint(1, 2))] for _ in range(draw.randint(1, 3))]
+            if (
+                draw.random() < 0.6
+            ):  # the two halves of a space, so that each box that the plane doesn't cut lies in one
+                (a, h), turn = plane(3), draw.choice((0, 1))
+                pieces = [*pieces[:1], [(a, h)], [(tuple(-k for k in a), turn - h)]]
+            bounds = [plane(6) for _ in range(draw.randint(0, 2))]
+            flat = [(*lo, *hi) for lo, hi in boxes]
+            group = zones.Group("a", pieces)
+            wanted = bounded_answer(pieces, boxes, bounds)
+            assert group.answer(flat, bounds) == wanted, (number, pieces, boxes, bounds)
+            alone = {piece.answer(flat, bounds) for piece in group.prisms()}
+            said.add((bool(bounds), wanted, wanted in alone))
+            assert wanted != "outside" or alone == {"outside"}
+        # boxes that lie in different pieces are inside the group, and in no piece
+        assert {(b, a, True) for b in (True, False) for a in zones.ANSWERS} <= said
+        assert {(True, "inside", False), (False, "inside", False)} <= said
+
+    def test_a_group_of_one_piece_answers_as_the_prism(self):
+        draw = random.Random(13)
+        for _ in range(DRAWN // 4):
+            flat = [Box(*lo, *hi) for lo, hi in drawn_boxes(draw, 4)]
+            sides = [((draw.randint(1, 3), draw.randint(-3, 3), draw.randint(-3, 3)), draw.randint(-9, 9))]
+            assert zones.Group("a", [sides]).answer(flat) == zones.Prism("a", sides).answer(flat)
+            # a piece that repeats a side is the same piece, and a piece that stands twice says nothing more
+            assert zones.Group("a", [sides * 2, sides]).answer(flat) == zones.Prism("a", sides).answer(flat)
+
     def test_lines_of_a_log(self):
-        text = "gpszones 2\nzone a 0 0 0 2 2 2\nprism b 1\nside 1 1 1 3\nreach c 2 0 -1\n"
+        text = (
+            "gpszones 2\nzone a 0 0 0 2 2 2\nprism b 1\nside 1 1 1 3\nreach c 2 0 -1\n"
+            # x up to 2, and x from 5 with y up to 9
+            "group d 2 2\nside 1 0 0 2\nside 1 0 0 2\nside -1 0 0 -5\nside 0 1 0 9\n"
+        )
         log = [
             (1, [(0, 0, 0, 1, 1, 1)], []),
             (2, None, []),
@@ -399,9 +478,11 @@ class TestAnswers:
             (4, [(0, 0, 0, 1, 1, 1), (5, 5, 5, 6, 6, 6)], []),
         ]
         wanted = (
-            "epoch 1 zone a inside,epoch 1 zone b inside,epoch 1 reach c -1 2,epoch 2 few,epoch 3 zone a outside,"
-            "epoch 3 zone b outside,epoch 3 reach c none,epoch 4 zone a open,epoch 4 zone b open,epoch 4 reach c -1 7,"
-            "zone a outside 1 inside 1 open 1 few 1,zone b outside 1 inside 1 open 1 few 1,reach c -1 7"
+            "epoch 1 zone a inside,epoch 1 zone b inside,epoch 1 reach c -1 2,epoch 1 zone d inside,epoch 2 few,"
+            "epoch 3 zone a outside,epoch 3 zone b outside,epoch 3 reach c none,epoch 3 zone d outside,"
+            "epoch 4 zone a open,epoch 4 zone b open,epoch 4 reach c -1 7,epoch 4 zone d inside,"
+            "zone a outside 1 inside 1 open 1 few 1,zone b outside 1 inside 1 open 1 few 1,reach c -1 7,"
+            "zone d outside 1 inside 2 open 0 few 1"
         ).split(",")
         with tempfile.TemporaryDirectory() as folder:
             path = Path(folder) / "zones"
@@ -422,6 +503,17 @@ class TestAnswers:
             ("gpszones 2\nprism a 1\nside 0 0 0 5\n", 3),
             ("gpszones 2\nprism a 1\nside 1 0 0 -0\n", 3),
             ("gpszones 2\nprism a 1\nside 1 0 0 5", 3),
+            ("gpszones 1\ngroup a 1 1\nside 1 0 0 5\n", 2),
+            ("gpszones 2\ngroup a 1\nside 1 0 0 5\n", 2),
+            ("gpszones 2\ngroup a 0 1\n", 2),
+            ("gpszones 2\ngroup a 1 0\n", 2),
+            ("gpszones 2\ngroup a 65 1\n", 2),
+            ("gpszones 2\ngroup a 1 17\n", 2),
+            ("gpszones 2\ngroup a 1 1 1\nside 1 0 0 5\n", 2),
+            ("gpszones 2\ngroup a 2 2\n" + 3 * "side 1 0 0 5\n", 6),
+            ("gpszones 2\ngroup a 2 2\n" + 5 * "side 1 0 0 5\n", 7),
+            ("gpszones 2\ngroup a 2 1\nside 1 0 0 5\nreach b 1 0 0\n", 4),
+            ("gpszones 2\ngroup a 1 1\nside 1 0 0 5\nreach a 1 0 0\n", 4),
             ("gpszones 2\nreach a 1048577 0 0\n", 2),
             ("gpszones 2\nprism a 1\nside 1 0 0 100000000000000000001\n", 3),
             (zone + "zone b 0 0 0 1 1 -1\n", 3),
@@ -432,8 +524,25 @@ class TestAnswers:
                 with pytest.raises(zones.ZonesError, match=f"line {line} "):
                     zones.read_zones(path)
 
+    def test_the_largest_group_is_read_piece_after_piece(self):
+        lines = [f"side {k + 1} 0 0 {k}" for k in range(64 * 16)]
+        with tempfile.TemporaryDirectory() as folder:
+            path = Path(folder) / "zones"
+            path.write_text("".join(line + "\n" for line in ["gpszones 2", "group a 64 16", *lines]), encoding="utf-8")
+            ((second, (group,)),) = [zones.read_zones(path)]
+        assert second
+        assert group.pieces == [[((16 * m + k + 1, 0, 0), 16 * m + k) for k in range(16)] for m in range(64)]
+
 
 class TestFiles:
+    @classmethod
+    def setup_class(cls):
+        cls.room = tempfile.mkdtemp()
+
+    @classmethod
+    def teardown_class(cls):
+        shutil.rmtree(cls.room)
+
     def test_kml_geojson_and_rows_say_the_same(self):
         ring = [(47.0, 8.0, 0.0), (47.0, 8.001, 0.0), (47.001, 8.001, 0.0), (47.0, 8.0, 0.0)]
         kml = "<kml xmlns='x'><Polygon><outerBoundaryIs><LinearRing><coordinates>{}</coordinates></LinearRing></outerBoundaryIs></Polygon></kml>"
@@ -465,6 +574,12 @@ class TestFiles:
                     assert (status, out) == (1, "")
                     assert re.search(f"^gpslog zones: .*{told}.*\n$", err)
 
+    def lane(self, points):
+        """The words of a lane of so many points, in a file of its own."""
+        path = Path(self.room) / f"lane-{points}"
+        path.write_text("".join(f"47 {8 + k / 1000} 400\n" for k in range(points)), encoding="utf-8")
+        return "--lane", f"l,{path},10,-2,2"
+
     def test_what_guard_would_not_read_is_refused_in_one_line(self):
         at = "--place", "a,47,8,400,20,10"
         many = [word for k in range(120) for word in ("--place", f"a{k},47,8,400,20,10")]
@@ -472,10 +587,14 @@ class TestFiles:
             ((*at, *at), "a: 2 zones or directions have this name"),
             (("--place", "r-e,47,8,400,20,10", "--reach", "r,47,8"), "r-e: 2 zones or directions have this name"),
             (many, "120 zones and directions take [0-9]+ bytes, and a file has at most 65536: make several files"),
+            (self.lane(66), "l: it has 65 parts, and a zone at most 64: --parts makes several"),
         ):
             status, out, err = ended(shapes, "--for", "outside", *words)
             assert (status, out) == (1, "")
             assert re.search(f"^gpslog zones: {told}\n$", err)
+        assert said("--for", "outside", *self.lane(65))[1] == "group l 64 6"
+        names = [line.split()[1] for line in said("--for", "outside", *self.lane(66), "--parts") if "prism" in line]
+        assert names == [f"l-{k}" for k in range(1, 66)]
         assert said("--for", "outside", *many[:160])[0] == "gpszones 2"
 
     def test_a_file_that_is_too_long_is_refused(self):
@@ -523,18 +642,19 @@ class TestFiles:
 
 
 def drawn_lines(draw, name, boxes):
-    """The lines of a zone, a prism or a direction that is drawn round some boxes; faces that just
-    touch one aren't seldom."""
+    """The lines of a zone, a prism, a group or a direction that is drawn round some boxes; faces that
+    just touch one aren't seldom."""
     hull = hull_of(boxes)
-    kind = draw.choice(("zone", "zone", "prism", "prism", "reach"))
+    kind = draw.choice(("zone", "zone", "prism", "prism", "group", "group", "reach"))
     if kind == "zone":
         ends = draw.choice((hull, hull, draw.choice(boxes)))
         moved = [end + draw.choice((0, 0, 1, -1, draw.randint(-(10**8), 10**8))) for end in ends]
         if any(moved[k] > moved[k + 3] for k in range(3)):
             moved = ends
         return [" ".join(map(str, ["zone", name, *moved]))]
-    sides = []
-    for _ in range(draw.randint(1, 5) if kind == "prism" else 1):
+    sides, pieces = [], draw.randint(2, 3) if kind == "group" else 1
+    count = {"prism": draw.randint(1, 5), "group": pieces * draw.randint(1, 2), "reach": 1}[kind]
+    for _ in range(count):
         size = draw.choice((1, 5, shapes.LONGEST))
         a = tuple(draw.randint(-size, size) for _ in range(3))
         a = a if any(a) else (0, -size, 0)
@@ -545,7 +665,11 @@ def drawn_lines(draw, name, boxes):
         sides.append((a, most))
     if kind == "reach":
         return ["reach {} {} {} {}".format(name, *sides[0][0])]
-    return [f"prism {name} {len(sides)}"] + ["side {} {} {} {}".format(*a, most) for a, most in sides]
+    if kind == "group" and draw.random() < 0.5:  # two halves of a space, so that boxes lie in one or the other
+        (a, most), shared = sides[0], draw.choice((0, 1))
+        pieces, sides = 2, [(a, most), (tuple(-k for k in a), shared - most)]
+    head = f"prism {name} {len(sides)}" if kind == "prism" else f"group {name} {pieces} {len(sides) // pieces}"
+    return [head] + ["side {} {} {} {}".format(*a, most) for a, most in sides]
 
 
 class TestGuards:

@@ -49,6 +49,32 @@ zone all outside 0 inside %d open 0 few 0
 zone low outside 0 inside %d open 0 few 0
 """
 
+# The first line of each epoch splits its root along x, whose low half ends at -3869309827800: 8 kept boxes lie there, one of
+# which ends there, and 4 in the other. So of groups of two pieces one holds each box in one of its pieces; one lacks an x; one
+# lies beyond both ends of the search box; and one, whose pieces repeat a side, has the low half alone.
+GROUPS = b"""gpszones 2
+group halves 2 1
+side 1 0 0 -3869309827800
+side -1 0 0 3869309827799
+group gap 2 1
+side 1 0 0 -3869309827801
+side -1 0 0 3869309827799
+group far 2 1
+side 1 0 0 -3869509827801
+side -1 0 0 3869109827799
+group low 2 2
+side 1 0 0 -3869309827800
+side 1 0 0 -3869309827800
+side 0 1 0 3436365477599
+side 0 1 0 3436365477599
+"""
+GROUPS_FOUND = b"epoch %d zone halves inside\nepoch %d zone gap open\nepoch %d zone far outside\nepoch %d zone low open\n"
+GROUPS_TOTALS = b"""zone halves outside 0 inside 4 open 0 few 0
+zone gap outside 0 inside 0 open 4 few 0
+zone far outside 4 inside 0 open 0 few 0
+zone low outside 0 inside 0 open 4 few 0
+"""
+
 # A user whom the rights of files bind, as they don't bind root.
 NOBODY = 65534
 
@@ -245,6 +271,18 @@ class TestRealFiles:
         self.expect(["guard", *FILES, "a.zones", "part.log", *part], 0, found_in(2, 3))
         self.expect([*words, *part], 1, b"no 51 EpochDiffers line 3\n")
 
+    def test_groups(self):
+        assert SOLVED.count(b"\nroot %s\nsplit 0 0\n" % ROOT) == 4
+        self.write("a.zones", GROUPS)
+        said = b"".join(GROUPS_FOUND % ((index,) * 4) for index in range(1, 5)) + GROUPS_TOTALS
+        self.expect(["guard", *FILES, "a.zones", "receiver.log"], 0, said)
+        # The largest group: the last of its pieces alone is met, and each box lies in it.
+        pieces = [b"side 1 0 0 -3869509827801\n" * 16] * 63 + [b"side 1 0 0 -3869109827800\n" * 16]
+        self.write("a.zones", b"gpszones 2\ngroup most 64 16\n" + b"".join(pieces))
+        said = b"".join(b"epoch %d zone most inside\n" % index for index in range(1, 5))
+        said += b"zone most outside 0 inside 4 open 0 few 0\n"
+        self.expect(["guard", *FILES, "a.zones", "receiver.log"], 0, said)
+
     def test_zones_of_a_track(self):
         words = ["guard", *FILES, "a.zones", "receiver.log"]
         self.expect_nothing_done([*words, "--track"], 3, b"settings 31 Missing motion.speed\n")
@@ -292,6 +330,19 @@ class TestRealFiles:
             (b"gpszones 2\nreach a 0 0 -1048577\n", 2),
             (b"gpszones 2\nprism a 1\nside 1 0 0 100000000000000000001\n", 3),
             (b"gpszones 2\nreach a 1 0 0 5\n", 2),
+            (b"gpszones 1\ngroup a 1 1\nside 1 0 0 5\n", 2),
+            (b"gpszones 2\ngroup a 1\nside 1 0 0 5\n", 2),
+            (b"gpszones 2\ngroup a 1 1 1\nside 1 0 0 5\n", 2),
+            (b"gpszones 2\ngroup a 0 1\n", 2),
+            (b"gpszones 2\ngroup a 1 0\n", 2),
+            (b"gpszones 2\ngroup a 65 1\n", 2),
+            (b"gpszones 2\ngroup a 1 17\n", 2),
+            (b"gpszones 2\ngroup a 02 1\n", 2),
+            (b"gpszones 2\ngroup a 2 2\n" + b"side 1 0 0 5\n" * 3, 6),
+            (b"gpszones 2\ngroup a 2 2\n" + b"side 1 0 0 5\n" * 5, 7),
+            (b"gpszones 2\ngroup a 2 1\nside 1 0 0 5\n" + zone, 4),
+            (b"gpszones 2\ngroup a 2 1\nside 1 0 0 5\nside 0 0 0 5\n", 4),
+            (b"gpszones 2\ngroup a 1 1\nside 1 0 0 5\n" + zone, 4),
         ):
             self.write("a.zones", text)
             self.expect_nothing_done(words, 3, b"zones 42 BadZones line %d\n" % line)

@@ -713,44 +713,67 @@ zone all 6377937000000 -200000000 -200000000 6378337000000 200000000 200000000
 zone half 6378137000000 -200000000 -200000000 6378337000000 200000000 200000000
 """
     BOX_LINES = "".join(f"epoch {k} zone far outside\nepoch {k} zone all inside\nepoch {k} zone half open\n" for k in (1, 2, 3))
-    # A prism that the search box lies beyond, one that cuts it, and two directions.
+    # A prism that the search box lies beyond, one that cuts it, a group one of whose pieces holds it, one each of whose pieces
+    # has a half of it, and two directions.
     PLANES = """gpszones 2
 prism low 1
 side 1 0 0 6377936999999
 prism cut 2
 side 1 0 0 6378137000000
 side 0 0 1 200000000
+group road 2 2
+side 1 0 0 6377936999999
+side 1 0 0 6377936999999
+side 1 0 0 6378337000000
+side -1 0 0 -6377937000000
+group halves 2 1
+side 1 0 0 6378137000000
+side -1 0 0 -6378137000000
 reach east 0 1 0
 reach slant 1 0 -1
 """
     PLANE_LINES = """epoch 1 zone low outside
 epoch 1 zone cut open
+epoch 1 zone road inside
+epoch 1 zone halves open
 epoch 1 reach east -200000000 200000000
 epoch 1 reach slant 6377737000000 6378537000000
 epoch 2 zone low outside
 epoch 2 zone cut open
+epoch 2 zone road inside
+epoch 2 zone halves open
 epoch 2 reach east -200000000 200000000
 epoch 2 reach slant 6377737000000 6378537000000
 epoch 3 zone low outside
 epoch 3 zone cut open
+epoch 3 zone road inside
+epoch 3 zone halves open
 epoch 3 reach east -200000000 200000000
 epoch 3 reach slant 6377737000000 6378537000000
 zone low outside 3 inside 0 open 0 few 0
 zone cut outside 0 inside 0 open 3 few 0
+zone road outside 0 inside 3 open 0 few 0
+zone halves outside 0 inside 0 open 3 few 0
 reach east -200000000 200000000
 reach slant 6377737000000 6378537000000
 """
     # The same where the second epoch keeps no box, and the third isn't searched.
     LOST_LINES = """epoch 1 zone low outside
 epoch 1 zone cut open
+epoch 1 zone road inside
+epoch 1 zone halves open
 epoch 1 reach east -200000000 200000000
 epoch 1 reach slant 6377737000000 6378537000000
 epoch 2 zone low outside
 epoch 2 zone cut outside
+epoch 2 zone road outside
+epoch 2 zone halves outside
 epoch 2 reach east none
 epoch 2 reach slant none
 zone low outside 2 inside 0 open 0 few 0
 zone cut outside 1 inside 0 open 1 few 0
+zone road outside 1 inside 1 open 0 few 0
+zone halves outside 1 inside 0 open 1 few 0
 reach east -200000000 200000000
 reach slant 6377737000000 6378537000000
 """

@@ -7,7 +7,7 @@ from collections import Counter
 from collections.abc import Iterator, Sequence
 from typing import Any
 
-from gpscover.geodesy import geodetic
+from gpscover.geodesy import Vector, geodetic
 from gpscover.integrity import Judge
 from gpscover.log import Epoch
 from gpscover.outline import convex_hull
@@ -20,11 +20,16 @@ Column = tuple[str, str]  # name and title
 PLACE_COLUMNS: tuple[Column, ...] = (("held", "held"), ("hpl", "hpl m"), ("vpl", "vpl m"))
 
 
-def ring_of(zone: Zone) -> list[list[float]]:
-    """The outline of a zone's corners on the ground, as latitude and longitude in degrees."""
-    places = (geodetic(point) for point in points_of(zone))
+def ring_of(points: Sequence[Vector]) -> list[list[float]]:
+    """The outline of some corners on the ground, as latitude and longitude in degrees."""
+    places = (geodetic(point) for point in points)
     ring = convex_hull((math.degrees(longitude), math.degrees(latitude)) for latitude, longitude, _ in places)
     return [[round(latitude, 9), round(longitude, 9)] for longitude, latitude in ring]
+
+
+def rings_of(zone: Zone) -> list[list[list[float]]]:
+    """The outlines of a zone and of each piece of a group. What has no corners has none."""
+    return [ring_of(points) for points in points_of(zone) if points]
 
 
 class Beside:
@@ -72,4 +77,6 @@ class Beside:
 
     def drawn(self) -> list[dict[str, Any]]:
         """The zones for the map, with their columns. One without corners has no outline."""
-        return [{"column": f"zone {k}", "name": zone.name, "ring": ring_of(zone)} for k, zone in enumerate(self.zones)]
+        return [
+            {"column": f"zone {k}", "name": zone.name, "rings": rings_of(zone)} for k, zone in enumerate(self.zones)
+        ]

@@ -52,11 +52,12 @@ class Fenced:
         if place is not None and self.frame is not None:
             self.known.append(self.frame.offset(place)[:2])
 
-    def ring_of(self, fence: Zone) -> list[Flat]:
-        """The outline of a zone; none before the first region."""
-        if self.frame is None:
+    def rings_of(self, fence: Zone) -> list[list[Flat]]:
+        """The outlines of a zone, one for each piece of a group; none before the first region."""
+        frame = self.frame
+        if frame is None:
             return []
-        return convex_hull([self.frame.offset(point)[:2] for point in points_of(fence)])
+        return [convex_hull([frame.offset(point)[:2] for point in points]) for points in points_of(fence) if points]
 
     def title(self, number: int) -> str:
         """How many epochs say what of a zone."""
@@ -71,8 +72,7 @@ def draw_fence(axes: Any, fenced: Fenced, number: int) -> None:
     for ring, answer in some_of(said):
         style = {"facecolor": ANSWER_COLOURS[answer], "edgecolor": LIMIT_COLOUR, "linewidth": 0.4, "alpha": 0.6}
         axes.fill(*zip(*ring), **style)
-    zone = fenced.ring_of(fenced.fences[number])
-    if zone:
+    for zone in fenced.rings_of(fenced.fences[number]):
         axes.fill(*zip(*zone), facecolor="none", edgecolor=PLACE_COLOUR, linewidth=1.4, linestyle="--")
     if fenced.known:
         axes.plot(*zip(*fenced.known), color=EDGE_LINE_COLOUR, linewidth=1)

@@ -27,7 +27,7 @@ drawn beside these. The origin is the middle of the first region.
 `zones` draws a panel for each zone of some files of zones, at most 6 of them, or for those that
 --zone names: its outline from above and at most 60 of the regions in the colours of what their
 boxes say of it (`gpslog answers`), with how many epochs say what. A prism is drawn as the hull of
-its corners, and not at all where it has none.
+its corners, and not at all where it has none, and a group as its pieces.
 
 `integrity` counts epochs by cells, as the Stanford diagram does, along the ground and up: how far
 the region's middle is from the known place, and how far its farthest corner is from its middle,

@@ -7,7 +7,7 @@ import itertools
 from gpscover.errors import Error
 from gpscover.outline import Flat
 
-MOST_PART_CORNERS = 8  # of a part of an area that is cut: the other sides of its prism are for sharp corners
+MOST_PART_CORNERS = 8  # of a part of an area that is cut: its other sides are for sharp corners
 
 
 class ShapeError(Error):

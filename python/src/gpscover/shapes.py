@@ -2,31 +2,35 @@
 and areas of a map.
 
 usage: gpslog zones --for outside|inside [--place P].. [--reported P].. [--lane L].. [--area A]..
-                    [--reach R].. > ZONES
+                    [--reach R].. [--parts] > ZONES
 
   --place NAME,LAT,LON,HEIGHT,RADIUS,UP   the points within RADIUS along the ground of a place
                                           and within UP above or below
   --reported NAME,FILE,LOG,RADIUS,UP      the same of each epoch of a log that has a place in a
                                           list of places: NAME-INDEX
-  --lane NAME,FILE,WIDTH,LOW,HIGH         a lane of this width, from LOW to HIGH above its line;
-                                          NAME-1, NAME-2, .. by leg
+  --lane NAME,FILE,WIDTH,LOW,HIGH         a lane of this width, from LOW to HIGH above its line
   --area NAME,FILE,LOW,HIGH               a polygon between two heights
   --reach NAME,LAT,LON                    directions NAME-e, NAME-n, NAME-u: east, north and up
+  --parts                                 a zone for each leg of a lane and each part of an area
+                                          that is cut: NAME-1, NAME-2, .. in the place of NAME
 
 Latitudes and longitudes are in degrees, lengths and heights in metres, heights above the ellipsoid
 of WGS 84. FILE is KML (its first LineString or Polygon), GeoJSON (the same) or lines `LAT LON
 [HEIGHT]`; of --reported it is a list as places.py says. A polygon's edges are straight in the plane
 that touches the ellipsoid below its middle; its heights follow the ellipsoid. A place is a prism of
-12 sides, a leg one of 4.
+12 sides, a leg one of 4. A lane of several legs is one zone, a group of its legs, and so is an area
+that isn't convex or has more than 14 corners: it is cut into convex parts, at most 64 as the legs
+are.
 
 The user says what the zones are for, and all is rounded to that side. A zone for `outside` grows:
 where the answer is `outside` no fitting point lies in the zone as it was given. A zone for `inside`
 shrinks: where it is `inside` each fitting point lies in it. Growing or shrinking takes a millimetre
 for the arithmetic of this script, and what the curve of the ellipsoid, the round of a place (3.5 %
-of its radius) and directions of whole numbers cost. For `outside` a polygon that isn't convex is
-cut into convex parts NAME-1, NAME-2, .. with sides more at their sharp edges; for `inside` it is
-refused, as is one of more than 14 corners: each of its points would have to lie in one prism. A
-reach is told in um times the length of its direction, which is 2^20 to within a millionth.
+of its radius) and directions of whole numbers cost. For `outside` the parts of an area have sides more at their sharp edges; for `inside` a box
+has to lie in one of them, so one over a cut between two leaves the area open, as does a box over
+the end of a leg. With --parts an area that would be cut is refused for `inside`: each point would
+have to lie in one of the zones. A reach is told in um times the length of its direction, which is
+2^20 to within a millionth.
 
 What `guard` wouldn't read isn't printed: two zones or directions of one name, more than 65,536
 bytes, which is room for some 90 places or 200 legs.
@@ -54,9 +58,8 @@ from gpscover.geodesy import Frame, Vector, cross, dot, earth_fixed, geodetic, l
 from gpscover.log import UM_PER_M, PathLike, epochs
 from gpscover.places import Meetings
 from gpscover.polygons import ShapeError, convex_parts, is_convex, turn_of
-from gpscover.zones import GREATEST, LONGEST, MOST_BYTES, Corners, Side, Whole, Zone
+from gpscover.zones import GREATEST, LONGEST, MOST_BYTES, MOST_PIECES, MOST_SIDES, Corners, Group, Side, Whole, Zone
 
-MOST_SIDES = 16
 LONGEST_NAME = 16
 ROUND_SIDES = 12
 UM = 10**6
@@ -138,13 +141,13 @@ def corners(sides: Sequence[Side]) -> list[tuple[int, int, int, int]]:
     return found
 
 
-def points_of(zone: Zone) -> list[Vector]:
-    """The corners of a zone in m. A prism may have none."""
+def points_of(zone: Zone) -> list[list[Vector]]:
+    """The corners of a zone in m, those of each piece of a group. A prism or a piece may have none."""
     if isinstance(zone, Corners):
-        ends: Iterable[tuple[int, ...]] = itertools.product(*zip(zone.low, zone.high), [1])
+        pieces: list[Iterable[tuple[int, ...]]] = [itertools.product(*zip(zone.low, zone.high), [1])]
     else:
-        ends = corners(zone.sides)
-    return [(x / by / UM_PER_M, y / by / UM_PER_M, z / by / UM_PER_M) for x, y, z, by in ends]
+        pieces = [corners(sides) for sides in (zone.pieces if isinstance(zone, Group) else [zone.sides])]
+    return [[(x / by / UM_PER_M, y / by / UM_PER_M, z / by / UM_PER_M) for x, y, z, by in ends] for ends in pieces]
 
 
 def shrunk(faces: list[Face]) -> list[Side]:
@@ -163,16 +166,44 @@ def shrunk(faces: list[Face]) -> list[Side]:
     raise ShapeError("its sides are too near to one direction")
 
 
-def prism(name: str, faces: list[Face], points: list[Vector], purpose: str) -> list[str]:
-    """The lines of a prism with these faces, which end at these points."""
+def sides_for(purpose: str, faces: list[Face], points: list[Vector]) -> list[Side]:
+    """The sides of a prism with these faces, which end at these points."""
+    return grown(faces, points) if purpose == "outside" else shrunk(faces)
+
+
+def side_lines(name: str, sides: list[Side]) -> list[str]:
+    """The lines of sides, if a prism or a piece may have these."""
     if len(name) > LONGEST_NAME:
         raise ShapeError(f"{name}: a name has at most {LONGEST_NAME} characters")
-    sides = grown(faces, points) if purpose == "outside" else shrunk(faces)
     if len(sides) > MOST_SIDES:
         raise ShapeError(f"{name}: a prism has at most {MOST_SIDES} sides")
     if any(abs(most) > GREATEST for _, most in sides):
         raise ShapeError(f"{name}: it is too far away")
-    return [f"prism {name} {len(sides)}"] + [f"side {x} {y} {z} {most}" for (x, y, z), most in sides]
+    return [f"side {x} {y} {z} {most}" for (x, y, z), most in sides]
+
+
+def prism(name: str, sides: list[Side]) -> list[str]:
+    """The lines of a prism."""
+    return [f"prism {name} {len(sides)}", *side_lines(name, sides)]
+
+
+def group(name: str, pieces: list[list[Side]]) -> list[str]:
+    """The lines of a group. Each piece has as many sides as the one with the most: its last one stands there again."""
+    if len(pieces) > MOST_PIECES:
+        raise ShapeError(f"{name}: it has {len(pieces)} parts, and a zone at most {MOST_PIECES}: --parts makes several")
+    each = max(map(len, pieces))
+    filled = [sides + sides[-1:] * (each - len(sides)) for sides in pieces]
+    return [f"group {name} {len(pieces)} {each}"] + [line for sides in filled for line in side_lines(name, sides)]
+
+
+def one_zone(name: str, pieces: list[list[Side]]) -> list[str]:
+    """The lines of a zone with these pieces: a prism where there is one."""
+    return prism(name, pieces[0]) if len(pieces) == 1 else group(name, pieces)
+
+
+def zone_each(name: str, pieces: list[list[Side]]) -> list[str]:
+    """The lines of a zone for each of these pieces."""
+    return [line for number, sides in enumerate(pieces, 1) for line in prism(f"{name}-{number}", sides)]
 
 
 # ---- shapes over the ground
@@ -238,7 +269,7 @@ def place_lines(name: str, place: Sequence[float], radius: float, up: float, pur
     turns = [2 * math.pi * k / ROUND_SIDES for k in range(ROUND_SIDES)]
     low, high = height - up, height + up
     rings = [[(far * math.cos(t), far * math.sin(t), level) for t in turns] for level in (low, high)]
-    return prism(name, *upright(ground, rings, low, high), purpose)
+    return prism(name, sides_for(purpose, *upright(ground, rings, low, high)))
 
 
 def reported_lines(name: str, path: PathLike, log: PathLike, radius: float, up: float, purpose: str) -> list[str]:
@@ -255,8 +286,9 @@ def reported_lines(name: str, path: PathLike, log: PathLike, radius: float, up: 
     return written
 
 
-def area_lines(name: str, ring: list[Vector], low: float, high: float, purpose: str) -> list[str]:
-    """A polygon of (latitude, longitude) in degrees between two heights."""
+def area_lines(name: str, ring: list[Vector], low: float, high: float, purpose: str, parts: bool = False) -> list[str]:
+    """A polygon of (latitude, longitude) in degrees between two heights: one zone, or with `parts` one for each part
+    into which it is cut."""
     around = [(math.radians(p[0]), math.radians(p[1])) for p in ring]
     if len(around) > 1 and around[0] == around[-1]:
         around = around[:-1]
@@ -268,19 +300,17 @@ def area_lines(name: str, ring: list[Vector], low: float, high: float, purpose: 
         raise ShapeError(f"{name}: it is wider than {2 * WIDEST_M // 1000} km")
     if turn_of(flat) < 0:
         around, flat = around[::-1], flat[::-1]
-    whole_ring = is_convex(flat) and len(around) <= MOST_SIDES - 2
-    if not whole_ring and purpose == "inside":
-        raise ShapeError(f"{name}: for inside it must be convex, with at most {MOST_SIDES - 2} corners")
-    parts = [tuple(range(len(around)))] if whole_ring else convex_parts(flat)
-    written: list[str] = []
-    for number, part in enumerate(parts, 1):
+    is_whole = is_convex(flat) and len(around) <= MOST_SIDES - 2
+    if parts and not is_whole and purpose == "inside":
+        raise ShapeError(f"{name}: for inside by parts it must be convex, with at most {MOST_SIDES - 2} corners")
+    pieces = []
+    for part in [tuple(range(len(around)))] if is_whole else convex_parts(flat):
         rings = [[ground.local(*around[i], height) for i in part] for height in (low, high)]
         faces, points = upright(ground, rings, low, high)
-        if whole_ring:
-            return prism(name, faces, points, purpose)
-        faces += bevels(faces[: len(part)], MOST_SIDES - len(faces))
-        written += prism(f"{name}-{number}", faces, points, purpose)
-    return written
+        if not is_whole and purpose == "outside":
+            faces += bevels(faces[: len(part)], MOST_SIDES - len(faces))
+        pieces.append(sides_for(purpose, faces, points))
+    return zone_each(name, pieces) if parts and not is_whole else one_zone(name, pieces)
 
 
 # ---- lanes
@@ -298,8 +328,10 @@ def unit(a: Sequence[float]) -> Vector:
     return x, y, z
 
 
-def lane_lines(name: str, line: list[Vector], width: float, low: float, high: float, purpose: str) -> list[str]:
-    """A polyline of (latitude, longitude, height) with a width.
+def lane_lines(
+    name: str, line: list[Vector], width: float, low: float, high: float, purpose: str, parts: bool = False
+) -> list[str]:
+    """A polyline of (latitude, longitude, height) with a width: one zone, or with `parts` one for each leg.
 
     A leg for `outside` goes on by half of the width at both ends, so that the corner between two
     legs is in one of them.
@@ -307,10 +339,8 @@ def lane_lines(name: str, line: list[Vector], width: float, low: float, high: fl
     if len(line) < 2:
         raise ShapeError(f"{name}: a lane has two points or more")
     beyond = width / 2 if purpose == "outside" else 0.0
-    written: list[str] = []
-    for number, (start, end) in enumerate(zip(line, line[1:]), 1):
-        written += prism(f"{name}-{number}", *leg(start, end, width / 2, low, high, beyond), purpose)
-    return written
+    pieces = [sides_for(purpose, *leg(start, end, width / 2, low, high, beyond)) for start, end in zip(line, line[1:])]
+    return zone_each(name, pieces) if parts else one_zone(name, pieces)
 
 
 def leg(start: Vector, end: Vector, half: float, low: float, high: float, beyond: float) -> Shape:
@@ -442,6 +472,7 @@ def arguments(parser: argparse.ArgumentParser) -> None:
         parser.add_argument(
             option, action="append", default=[], type=field_list(names.split()), metavar=names.replace(" ", ",")
         )
+    parser.add_argument("--parts", action="store_true", help="a zone for each leg of a lane and part of an area")
 
 
 def file_lines(args: argparse.Namespace) -> list[str]:
@@ -454,9 +485,9 @@ def file_lines(args: argparse.Namespace) -> list[str]:
         name, path, log, radius, up = reported
         lines += reported_lines(name, path, log, radius, up, args.purpose)
     for name, path, width, low, high in args.lane:
-        lines += lane_lines(name, places_of(path, "LineString"), width, low, high, args.purpose)
+        lines += lane_lines(name, places_of(path, "LineString"), width, low, high, args.purpose, args.parts)
     for name, path, low, high in args.area:
-        lines += area_lines(name, places_of(path, "Polygon"), low, high, args.purpose)
+        lines += area_lines(name, places_of(path, "Polygon"), low, high, args.purpose, args.parts)
     for reach in args.reach:
         lines += reach_lines(*reach)
     return lines

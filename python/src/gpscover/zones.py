@@ -7,7 +7,8 @@ ZONES is a file of zones in either form (`gpslog zones` writes one). For each ep
 INDEX few`, or a line for each zone and direction: `epoch INDEX zone NAME outside|inside|open`,
 `epoch INDEX reach NAME LO HI` or `.. none`. A zone is outside where each box that the epoch keeps
 lies apart from it, and a prism where each lies beyond one of its sides; inside where there is a box
-and each lies in it. Behind the epochs of the second form stand `zone NAME outside A inside B open C
+and each lies in it. A group is outside where it is so of each of its pieces, and inside where each
+box lies in one of them. Behind the epochs of the second form stand `zone NAME outside A inside B open C
 few D` and `reach NAME LO HI` over all of them. Where the log has bounds, a zone's answer is that of what
 each of them leaves of each box.
 
@@ -36,6 +37,7 @@ Kept = tuple[int, list[Box] | None, list[Side]]
 
 HEADS = "gpszones 1", "gpszones 2"
 ANSWERS = "outside", "inside", "open"
+MOST_PIECES, MOST_SIDES = 64, 16
 FARTHEST = 10**13
 LONGEST = 2**20
 GREATEST = 10**20
@@ -69,9 +71,12 @@ class Corners:
     def is_outside(self, boxes: Sequence[Box], bounds: Sequence[Side]) -> bool:
         return all(self.is_apart(box, bounds) for box in boxes)
 
+    def is_inside(self, boxes: Sequence[Box], bounds: Sequence[Side]) -> bool:
+        return are_behind(self.faces(), boxes, bounds)
+
     def answer(self, boxes: Sequence[Box], bounds: Sequence[Side] = ()) -> str:
         """What boxes (low corner and high corner) say of it, as far as they lie within bounds."""
-        return answer_of(self.is_outside, self.faces(), boxes, bounds)
+        return answer_of(self.is_outside, self.is_inside, boxes, bounds)
 
 
 @dataclass
@@ -84,9 +89,34 @@ class Prism:
     def is_outside(self, boxes: Sequence[Box], bounds: Sequence[Side]) -> bool:
         return all(any(is_beyond(side, box, bounds) for side in self.sides) for box in boxes)
 
+    def is_inside(self, boxes: Sequence[Box], bounds: Sequence[Side]) -> bool:
+        return are_behind(self.sides, boxes, bounds)
+
     def answer(self, boxes: Sequence[Box], bounds: Sequence[Side] = ()) -> str:
         """What boxes say of it, as far as they lie within bounds."""
-        return answer_of(self.is_outside, self.sides, boxes, bounds)
+        return answer_of(self.is_outside, self.is_inside, boxes, bounds)
+
+
+@dataclass
+class Group:
+    """A zone of several pieces: the points of each of these prisms, which are lists of sides (A, H)."""
+
+    name: str
+    pieces: list[list[Side]]
+
+    def prisms(self) -> list[Prism]:
+        """Each piece as a zone."""
+        return [Prism(self.name, sides) for sides in self.pieces]
+
+    def is_outside(self, boxes: Sequence[Box], bounds: Sequence[Side]) -> bool:
+        return all(is_so_of(piece.is_outside, boxes, bounds) for piece in self.prisms())
+
+    def is_inside(self, boxes: Sequence[Box], bounds: Sequence[Side]) -> bool:
+        return all(any(piece.is_inside([box], bounds) for piece in self.prisms()) for box in boxes)
+
+    def answer(self, boxes: Sequence[Box], bounds: Sequence[Side] = ()) -> str:
+        """What boxes say of it, as far as they lie within bounds: box by box, inside by any of the pieces."""
+        return answer_of(self.is_outside, self.is_inside, boxes, bounds)
 
 
 @dataclass
@@ -102,8 +132,9 @@ class Reach:
         return (min(low for low, _ in spans), max(high for _, high in spans)) if spans else None
 
 
-Zone = Corners | Prism
-Thing = Corners | Prism | Reach
+Zone = Corners | Prism | Group
+Thing = Zone | Reach
+Test = Callable[[Sequence[Box], Sequence[Side]], bool]
 
 
 def span(a: Whole, box: Sequence[int]) -> Ends:
@@ -160,17 +191,17 @@ def are_behind(sides: Sequence[Side], boxes: Sequence[Box], bounds: Sequence[Sid
     return all(is_beyond(opposite(side), box, bounds) for box in boxes for side in sides)
 
 
-def answer_of(
-    is_outside: Callable[[Sequence[Box], Sequence[Side]], bool],
-    sides: Sequence[Side],
-    boxes: Sequence[Box],
-    bounds: Sequence[Side],
-) -> str:
-    """What boxes say of a zone behind planes, as far as they lie within bounds: the box round all is asked first, which mostly tells."""
+def is_so_of(test: Test, boxes: Sequence[Box], bounds: Sequence[Side]) -> bool:
+    """Whether boxes pass a test, as far as they lie within bounds: the box round all is asked first, which mostly tells."""
     around = [hull_of(boxes)] if len(boxes) > 1 else boxes
-    if is_outside(around, bounds) or is_outside(boxes, bounds):
+    return test(around, bounds) or test(boxes, bounds)
+
+
+def answer_of(is_outside: Test, is_inside: Test, boxes: Sequence[Box], bounds: Sequence[Side]) -> str:
+    """What boxes say of a zone, as far as they lie within bounds."""
+    if is_so_of(is_outside, boxes, bounds):
         return "outside"
-    return "inside" if are_behind(sides, around, bounds) or are_behind(sides, boxes, bounds) else "open"
+    return "inside" if is_so_of(is_inside, boxes, bounds) else "open"
 
 
 # ---- the file
@@ -193,8 +224,16 @@ def direction(words: list[str]) -> Whole:
     return x, y, z
 
 
-def thing_of(words: list[str], second: bool) -> tuple[Thing, int]:
-    """The zone or direction of a line, and how many sides are owed behind it."""
+def counts(words: list[str], *most: int) -> tuple[int, ...]:
+    """Whole numbers from 1 to their bounds."""
+    found = numbers(words, *most)
+    if min(found) < 1:
+        raise ValueError
+    return found
+
+
+def thing_of(words: list[str], second: bool) -> tuple[Thing, list[list[Side]]]:
+    """The zone or direction of a line, and where the sides that are owed behind it go, one by one."""
     kind, name, *rest = words
     if not re.fullmatch("[a-z0-9-]{1,16}", name):
         raise ValueError
@@ -203,14 +242,17 @@ def thing_of(words: list[str], second: bool) -> tuple[Thing, int]:
         a, b, c, d, e, f = ends
         if a > d or b > e or c > f:
             raise ValueError
-        return Corners(name, (a, b, c), (d, e, f)), 0
+        return Corners(name, (a, b, c), (d, e, f)), []
     if second and kind == "reach":
-        return Reach(name, direction(rest)), 0
+        return Reach(name, direction(rest)), []
     if second and kind == "prism":
-        (count,) = numbers(rest, 16)
-        if count < 1:
-            raise ValueError
-        return Prism(name, []), count
+        (count,) = counts(rest, MOST_SIDES)
+        sides: list[Side] = []
+        return Prism(name, sides), [sides] * count
+    if second and kind == "group":
+        count, each = counts(rest, MOST_PIECES, MOST_SIDES)
+        pieces: list[list[Side]] = [[] for _ in range(count)]
+        return Group(name, pieces), [piece for piece in pieces for _ in range(each)]
     raise ValueError
 
 
@@ -221,10 +263,11 @@ def zone_file(path: PathLike) -> list[str]:
 
 
 class Reader:
-    """The zones and directions of a file's lines, and how many sides are owed to the last one."""
+    """The zones and directions of a file's lines, and where the sides go that are owed to the last one."""
 
     def __init__(self, second: bool) -> None:
-        self.second, self.owed = second, 0
+        self.second = second
+        self.owed: list[list[Side]] = []
         self.things: list[Thing] = []
         self.names: set[str] = set()
 
@@ -240,13 +283,11 @@ class Reader:
         self.things.append(thing)
 
     def take_side(self, words: list[str]) -> None:
-        """Takes a side of the last prism."""
-        prism = self.things[-1]
-        if words[0] != "side" or len(words) != 5 or not isinstance(prism, Prism):
+        """Takes a side of the last prism or group."""
+        if words[0] != "side" or len(words) != 5:
             raise ValueError
         (most,) = numbers(words[4:], GREATEST)
-        prism.sides.append((direction(words[1:4]), most))
-        self.owed -= 1
+        self.owed.pop(0).append((direction(words[1:4]), most))
 
 
 def read_zones(path: PathLike) -> tuple[bool, list[Thing]]:

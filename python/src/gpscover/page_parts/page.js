@@ -543,9 +543,9 @@ function regionTraces(positions) {
 }
 
 function zoneTraces() {
-  return data.zones.filter((zone) => zone.ring.length > 0).map((zone) => {
-    const ring = [...zone.ring, zone.ring[0]];
-    const [y, x] = [0, 1].map((part) => ring.map((point) => point[part]));
+  return data.zones.filter((zone) => zone.rings.length > 0).map((zone) => {
+    const points = zone.rings.flatMap((ring, k) => [...k > 0 ? [[null, null]] : [], ...ring, ring[0]]);
+    const [y, x] = [0, 1].map((part) => points.map((point) => point[part]));
     return { ...data.figures.map.zone, x, y, text: [zone.name], name: zone.name };
   });
 }
@@ -559,7 +559,7 @@ function endsOf(part, positions) {
 // What an axis of the map sheet shows: the regions, and of the zones what is within a length of these.
 function sheetEnds([low, high], part, length) {
   const within = (value) => Math.min(Math.max(value, low - length), high + length);
-  const zones = data.zones.flatMap((zone) => zone.ring.map((point) => within(point[part])));
+  const zones = data.zones.flatMap((zone) => zone.rings.flat().map((point) => within(point[part])));
   const [first, last] = [Math.min(low, ...zones), Math.max(high, ...zones)];
   const margin = 0.05 * (last - first);
   return [first - margin, last + margin];
