@@ -7,7 +7,7 @@ from pathlib import Path
 import pytest
 from made_logs import HEAD, LOST, PAVED, RECORDED, TUBE, ended_with, epoch_of, written
 
-from gpscover import Error, drawn_answers, drawn_regions, pictures, places, plotting, region
+from gpscover import Error, drawn_answers, drawn_regions, pictures, places, plotting, region, zones
 from gpscover.log import epochs as read_epochs
 
 
@@ -107,6 +107,9 @@ class TestPicturedZones:
         (ring,) = found.rings_of(found.fences[0])
         assert {(round(x), round(y)) for x, y in ring} == {(x, y) for x in (-45, -5) for y in (-30, 30)}
         assert found.rings_of(found.fences[1]) == []
+        # A group has an outline for each of its pieces with corners.
+        pieces = [found.fences[0].faces(), found.fences[1].sides, found.fences[0].faces()]
+        assert found.rings_of(zones.Group("d", pieces)) == [ring, ring]
         # The first box shares the face y = 20 m with a, the second holds a part of it, and in the
         # third epoch there is none.
         assert found.title(0) == "a: outside 1, inside 0, open 2, few 1"
