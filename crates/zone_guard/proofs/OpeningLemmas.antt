@@ -1,5 +1,5 @@
 -- Which kind of line begins with a word.
-use Rattle.std.proofs.Common.{◌≡◌, ℕ, List, []}
+use Rattle.std.proofs.Common.{◌≡◌, ℕ, List, [], ◌∷◌}
 use Rattle.std.specs.Prelude.{codes}
 use Rattle.zone_guard.specs.Lines.{ZoneValue}
 use Rattle.zone_guard.specs.Names.{CornersFit, corner_words}
@@ -14,3 +14,7 @@ no_corners line none first (Corners lo hi) zone fits is spelled =
 no_corners line none first (Sides count) zone fits is spelled = absurd cc
 no_corners line none first (Pieces count each) zone fits is spelled = absurd cc
 no_corners line none first (Along a) zone fits is spelled = absurd cc
+
+-- what stands behind the first of two words
+pub second_word : (a b : List ℕ) (xs ys : List (List ℕ)) → a ∷ xs ≡ b ∷ ys → xs ≡ ys
+second_word a b xs ys e = cc
