@@ -1,6 +1,6 @@
 -- What a log leaves, and what is left of a receiver that it keeps.
-use Rattle.std.proofs.Common.{◌≡◌, ℕ, zero, suc, true, List, [], ◌∷◌, sym, subst, Option, None, Some}
-use Rattle.std.specs.Prelude.{ℤ, IfSome}
+use Rattle.std.proofs.Common.{◌≡◌, ◌∙◌, ℕ, zero, suc, Bool, true, List, [], ◌∷◌, sym, ap, subst, Option, None, Some}
+use Rattle.std.specs.Prelude.{ℤ, ◌↔◌, IfSome, IsTrue}
 use Rattle.std.specs.List.{AllByRecursion}
 use Rattle.grid_model.specs.Boxes.{GridBox, IsInside, grid_box}
 use Rattle.grid_model.specs.declared.boxes.Box3.{Box3}
@@ -10,8 +10,10 @@ use Rattle.sat_model.specs.Cover.{SomeKeeps}
 use Rattle.sat_model.specs.Events.{steps_in}
 use Rattle.sat_model.specs.Fold.{pieces}
 use Rattle.sat_model.specs.Logs.{Block, Body, LogValue}
-use Rattle.moving_tube.specs.Endings.{ending_of, last_paved, left_by, paved_behind, paved_or}
-use Rattle.moving_tube.specs.Hulls.{HullHolds, hull_of}
+use Rattle.subpaving.specs.LiveValues.{box_option}
+use Rattle.moving_tube.specs.Endings.{IsInsideOf, before_value, ending_of, last_paved, left_by, paved_behind, paved_or}
+use Rattle.moving_tube.specs.Hulls.{HullHolds, HullLies, hull_of}
+use Rattle.moving_tube.specs.declared.kept.Kept.{Kept}
 use Rattle.moving_tube.specs.Roots.{handed_on}
 use Rattle.moving_tube.specs.Tracks.{ComesFrom, Left}
 use Rattle.moving_tube.proofs.HullLemmas.{kept_held}
@@ -64,3 +66,24 @@ inside_lies part whole is (suc (suc n)) = record { low = is.2.0; ordered = part.
 pub lies_inside : (part whole : GridBox) → LiesIn part whole → IsInside part whole
 lies_inside part whole lies =
     (((lies 0).low, (lies 0).high), ((lies 1).low, (lies 1).high), ((lies 2).low, (lies 2).high))
+
+part_inside : (search : Box3) (o : Option Box3) (part : Box3) (answer : Bool) → o ≡ Some part
+    → (IsTrue answer ↔ IsInside (grid_box part) (grid_box search))
+    → (IsTrue answer ↔ HullLies (box_option o) (grid_box search))
+part_inside search None part answer is tests = cc
+part_inside search (Some p) part answer is tests =
+    let same : part ≡ p = cc in
+    subst (λ (b : Box3). IsTrue answer ↔ LiesIn (grid_box b) (grid_box search)) same
+    (
+      λ yes. inside_lies part (grid_box search) (tests.0 yes),
+      λ lies. tests.1 (lies_inside (grid_box part) (grid_box search) lies),
+    )
+
+pub left_inside : (search : Box3) (left : Option Kept) (kept : Kept) (part : Box3) (answer : Bool)
+    → left ≡ Some kept → kept.part ≡ Some part
+    → (IsTrue answer ↔ IsInside (grid_box part) (grid_box search))
+    → (IsTrue answer ↔ IsInsideOf (grid_box search) (before_value left))
+left_inside search None kept part answer is has tests = cc
+left_inside search (Some k) kept part answer is has tests =
+    let same : k ≡ kept = cc in
+    part_inside search k.part part answer (ap (λ (x : Kept). x.part) same ∙ has) tests

@@ -2,7 +2,7 @@ use Rattle.std.proofs.Common.{◌≡◌, drop, map}
 use Rattle.std.specs.Option.{option_map}
 use Rattle.paving_log.specs.Values.{block_of}
 use Rattle.moving_tube.specs.Endings.{last_paved, paved_behind}
-use Rattle.moving_tube.proofs.ending.last_paved.Given as goal
+use Rattle.moving_tube.proofs.endings.last_paved.Given as goal
 
 -- the last paved one so far, with those that are left, is that of all
 abbrev pub invariant-loop-epoch : goal.invariant-loop-epoch

@@ -1,6 +1,6 @@
 //! What a log leaves for a track that goes on behind it.
 
-ghost use Rattle.std.specs.Prelude.{◌≡◌, ◌↔◌, IfOk, IsTrue, Some, map, option_map};
+ghost use Rattle.std.specs.Prelude.{◌≡◌, ◌↔◌, IfOk, IsTrue, Some, map, option_map, true};
 ghost use Rattle.std.specs.List.{AllByRecursion};
 ghost use Rattle.grid_model.specs.Boxes.{grid_box};
 ghost use Rattle.log_tokens.specs.Fields.{IsTime};
