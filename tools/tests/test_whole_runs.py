@@ -733,14 +733,16 @@ class TestTracks(WholeRuns):
         lines, _, _ = self.tracked(TRACK_FILES)
         wrong = "".join(lines).replace("\ndone 0\n", "\ndone 1\n", 1)
         at = 1 + wrong.splitlines().index("done 1")
-        wide = "".join(lines).replace("root 6377937000000", "root 6377936999999")
+        half = re.search(r"(?m)^half = (\d+)$", MOVING)[1]
+        # That of a search box which reaches 1 mm farther.
+        wide = self.tracked(TRACK_FILES | {"a.toml": MOVING.replace(f"half = {half}", f"half = {int(half) + 1}")})[0]
         for text, status, said in (
             (None, READ_FAULT, "after fault\n"),
             ("", REFUSED, "after 40 BadLog line 1 kind 4\n"),
             (MOVING, REFUSED, "after 40 BadLog line 1 kind 1\n"),
             ("".join(lines)[:-1], REFUSED, f"after 40 BadLog line {len(lines)} kind 4\n"),
             (wrong, REFUSED, f"after 44 BadAfter line {at}\n"),
-            (wide, REFUSED, "after 45 OutsideBox\n"),
+            ("".join(wide), REFUSED, "after 45 OutsideBox\n"),
             (Zeros(512 * 1024 * 1024 + 1), REFUSED, "after 29 TooLong 536870912\n"),
         ):
             files = TRACK_FILES | {"b.log": "x"} | ({} if text is None else {"e.log": text})
