@@ -23,8 +23,8 @@ SPEC.loader.exec_module(recheck)
 DATA = TOP / "crates/gpscover/data"
 FILES = [DATA / name for name in ("receiver.obs", "receiver.nav", "settings.toml")]
 LOG = DATA / "receiver.log"
-WRONG_WORDS = 2, ("usage: recheck.py [--track] OBS NAV SETTINGS LOG [--from N] [--to N] [--station STATION], or"
-                  " recheck.py LOG\n")
+WRONG_WORDS = 2, ("usage: recheck.py [--track] OBS NAV SETTINGS LOG [--from N] [--to N] [--station STATION] [--after EARLIER],"
+                  " or recheck.py LOG\n")
 
 
 def verdict(*words):
@@ -155,7 +155,7 @@ def wrong_word_cases():
     """(words, status and line) of wrong command lines."""
     options = [("--from", number) for number in ("0", "02", "+2", "-2", "2.0", "200001", "x", "")]
     options += [("--from",), ("--from", "1", "--from", "2"), ("--till", "3"), ("--to", "3", "x"), ("--track",)]
-    options += [("--station",), ("--station", "-x"), ("--station", "x", "--station", "x")]
+    options += [("--station",), ("--station", "-x"), ("--station", "x", "--station", "x"), ("--after", "x")]
     return [((*FILES, LOG, *option), WRONG_WORDS) for option in options] + [(words, WRONG_WORDS) for words in (
         ("--from", "2", *FILES, LOG), (LOG, "--from", "2"), (), ("--track",), ("--track", LOG),
         ("--track", "--track", *FILES, LOG))]
@@ -716,6 +716,35 @@ def track_cases(folder):
         lines = [*first, *behind[0], *second, *behind[1], *third, *fourth]
         log = written(folder, f"boundedtrack{number}.log", "\n".join(["gpscover 4", "rules 1 12 1000000", *lines, ""]))
         yield ("--track", *paths, log), (0 if wanted.startswith("yes") else 1, wanted)
+    # A track goes on behind another log: from what its last paved epoch keeps, over few ones, or from the search box.
+    earlier = {
+        "first": [first], "second": [*begun], "few": [first, few], "lost": [*begun, lost], "none": [few], "empty": [],
+        "wrong": [*begun, track_block(3, root_line(440, 440), LOSE)], "wide": [track_block(1, root_line(1001, 1000), KEEP)],
+    }
+    heads = ["gpscover 1", "rules 1 12 1000000"]
+    for name, blocks in earlier.items():
+        text = "\n".join([*heads, *(line for block in blocks for line in block), ""])
+        earlier[name] = written(folder, f"earlier-{name}.log", text)
+    earlier |= {"missing": Path(folder) / "missing.log", "text": plain[2]}
+    begins_anew = track_block(4, root_line(1000, 1000), KEEP)
+    for number, (paths, name, blocks, wanted, *options) in enumerate((
+            (plain, "first", [second, third, fourth], "yes 3", "--from", "2"),
+            (plain, "second", [third, fourth], "yes 2", "--from", "3"),
+            (plain, "first", [third], "yes 1", "--from", "3", "--to", "3"), (plain, "second", [fourth], "yes 1", "--from", "4"),
+            # As behind another epoch, and as behind none.
+            (plain, "second", [track_block(3, root_line(460, 460), KEEP)], "no 55 RootDiffers line 13", "--from", "3", "--to", "3"),
+            (plain, "first", [track_block(2, root_line(1000, 1000), KEEP)], "no 55 RootDiffers line 13", "--from", "2", "--to", "2"),
+            (left, "few", [third, fourth], "yes 2", "--from", "3"),
+            (off, "lost", [begins_anew], "yes 1", "--from", "4"), (off, "lost", [fourth], "no 55 RootDiffers line 13", "--from", "4"),
+            (plain, "none", [begins_anew], "yes 1", "--from", "4"), (plain, "empty", [begins_anew], "yes 1", "--from", "4"),
+            (plain, "wrong", [fourth], "after 44 BadAfter line 42\n", "--from", "4"),
+            (plain, "wide", [fourth], "after 45 OutsideBox\n", "--from", "4"),
+            (plain, "missing", [fourth], "after fault\n"),
+            (plain, "text", [fourth], "after 40 BadLog line 1 kind 1\n"))):
+        text = "\n".join([*heads, *(line for block in blocks for line in block), ""])
+        log = written(folder, f"aftertrack{number}.log", text)
+        status = {"y": 0, "n": 1}.get(wanted[0], 4 if "fault" in wanted else 3)
+        yield ("--track", *paths, log, *options, "--after", earlier[name]), (status, wanted)
     log = written(folder, "plain.log", "\n".join(["gpscover 1", "rules 1 12 1000000", *first, *second, ""]))
     yield (*plain, log, "--to", "2"), (1, "no 55 RootDiffers line 28")  # as `check`
     yield ("--track", *FILES, LOG), (3, "settings 31 Missing motion.speed\n")

@@ -226,15 +226,17 @@ class TestWords(WholeRuns):
             ("solve o n s l --from 3 --to 2", "l", 3, 2), ("solve o n s l --from=3", "l", 3, 24),
             ("solve o --to 7 n --from=2 s l", "l", 2, 7), ("solve o n s -- -l", "-l", 1, 24),
             ("track o n moving l", "l", 1, 24), ("track o n moving l --from 3 --to 20", "l", 3, 20),
+            ("track o n moving l --after x", "l", 1, 24), ("track --after=x o --to 20 n moving l --from 3", "l", 3, 20),
         ):
             made = {log: few_log(first, last)}
-            self.expect(words.split(), self.FILES, DONE, few_report(first, last), made=made)
+            self.expect(words.split(), self.FILES | {"x": HEAD}, DONE, few_report(first, last), made=made)
 
     def test_taken_with_a_log_of_a_receiver(self):
         """A log of the epochs that are asked for is accepted, and a longer or a shorter one isn't."""
         for words, first, last in (
             ("check o n s l", 1, 24), ("check o n s l --to 200000", 1, 24), ("check o n s l --to 20 --from 3", 3, 20),
             ("check --to 7 o n s l", 1, 7), ("retrack --to 7 o n moving --from=2 l", 2, 7),
+            ("retrack o n moving l --after l --from 3", 3, 24),
         ):
             self.expect(words.split(), self.FILES | {"l": few_log(first, last)}, DONE, "yes 0\n")
             shorter = f"no 51 EpochDiffers line {3 + 2 * (last - first)}\n"
@@ -246,6 +248,7 @@ class TestWords(WholeRuns):
         for words, log, first, last in (
             ("guard o n s z l", "l", 1, 24), ("guard o n moving z l --from 3 --track", "l", 3, 24),
             ("guard --track o n moving z --to=7 l", "l", 1, 7), ("guard o n s z -- --track", "--track", 1, 24),
+            ("guard --after l o n moving z l --track --from 3", "l", 3, 24),
         ):
             said = "".join(f"epoch {k} few\n" for k in range(first, last + 1))
             said += f"zone a outside 0 inside 0 open 0 few {last + 1 - first}\n"
@@ -308,6 +311,9 @@ class TestWords(WholeRuns):
                 "pave r l --quiet --quiet", "solve o n s l --quiet=true", "solve o n s l --quie", "solve o n s l -q",
                 "pave r l --quiet x", "check o n s l --quiet", "retrack o n moving l --quiet",
                 "guard o n s z l --quiet", "judge x --quiet", "make 7 3 --quiet",
+                "solve o n s l --after x", "check o n s l --after x", "guard o n s z l --after x", "judge x --after x",
+                "pave r l --after x", "track o n moving l --after", "track o n moving l --after x --after x",
+                "retrack o n moving l --after -x", "guard o n moving z l --track --after x --after x",
             )),
         ):
             self.expect(words, self.FILES | {"x": EDGE_LOG, "r": ROWS}, NO_COMMAND, err=USAGE.decode())
@@ -676,6 +682,77 @@ class TestTracks(WholeRuns):
         self.expect_denied(files | {"a.toml": motion}, lines, f"{denied}\n")
         (folder / "a.toml").write_text(motion)
         assert second_verdict(folder) == denied
+
+    def test_a_track_in_parts(self):
+        """Ten parts of a made receiver that stands, each behind the one before: their blocks are those of the one track over
+        all epochs. A part that is checked behind another one, or behind none, has the wrong root."""
+        texts = made_files.Made(7, 20).texts()
+        files = {"a.obs": texts["obs"], "a.nav": texts["nav"], "a.toml": texts["toml"] + "\n[motion]\nspeed = 0\n"}
+        lines, report, folder = self.tracked(files)
+        assert "lost" not in report and count("".join(lines), "few ") == 0
+        parts, after = [], []
+        for part in range(10):
+            name, numbers = f"{part}.log", ["--from", str(2 * part + 1), "--to", str(2 * part + 2)]
+            log, report = self.written_in(folder, ["track", *self.FILES, name, *numbers, *after], name)
+            yes = f"yes {count(report, 'in ') + count(report, 'edge ')}\n"
+            self.expect_in(folder, ["retrack", *self.FILES, name, *numbers, *after], DONE, yes)
+            files = recheck.Files(
+                *(str(folder / it) for it in self.FILES), 2 * part + 1, 2 * part + 2, True, None, *(str(folder / it) for it in after[1:])
+            )
+            assert f"yes {recheck.TrackJudge(recheck.read_log(log.encode()), files).verdict()}\n" == yes
+            parts += log.splitlines(keepends=True)[2:]
+            after = ["--after", name]
+        assert parts == lines[2:]
+        root = 3 + next(at for at, line in enumerate(log.splitlines()[2:]) if line.startswith("root "))
+        for other in [], ["--after", "0.log"]:
+            words = ["retrack", *self.FILES, name, *numbers, *other]
+            self.expect_in(folder, words, NO, f"no 55 RootDiffers line {root}\n")
+
+    def test_a_track_behind_a_solved_log(self):
+        """Each epoch of TRACK_FILES keeps its root, which is the search box, and so does the one behind it."""
+        folder = self.folder(TRACK_FILES)
+        whole, _ = self.written_in(folder, ["track", *self.FILES, "b.log"])
+        self.done_in(folder, ["solve", *self.FILES, "s.log", "--to", "2"])
+        words = [*self.FILES, "c.log", "--from", "3", "--after", "s.log"]
+        third, _ = self.written_in(folder, ["track", *words], "c.log")
+        assert third.splitlines()[2:] == whole.splitlines()[18:]
+        self.expect_in(folder, ["retrack", *words], DONE, "yes 1\n")
+
+    def test_a_track_behind_a_lost_one(self):
+        """A log whose last epoch keeps no box leaves nothing: the track begins in the search box."""
+        folder = self.folder(TRACK_FILES | {"a.obs": LOST_OBS})
+        self.done_in(folder, ["track", *self.FILES, "b.log"])
+        third, _ = self.written_in(folder, ["solve", *self.FILES, "s.log", "--from", "3"], "s.log")
+        words = [*self.FILES, "c.log", "--from", "3", "--after", "b.log"]
+        self.done_in(folder, ["track", *words])
+        assert (folder / "c.log").read_text() == third
+        self.expect_in(folder, ["retrack", *words], DONE, "yes 1\n")
+
+    def test_an_earlier_log_is_refused(self):
+        """It is read last, and its first fault is told before the log is created or read."""
+        lines, _, _ = self.tracked(TRACK_FILES)
+        wrong = "".join(lines).replace("\ndone 0\n", "\ndone 1\n", 1)
+        at = 1 + wrong.splitlines().index("done 1")
+        half = re.search(r"(?m)^half = (\d+)$", MOVING)[1]
+        # That of a search box which reaches 1 mm farther.
+        wide = self.tracked(TRACK_FILES | {"a.toml": MOVING.replace(f"half = {half}", f"half = {int(half) + 1}")})[0]
+        for text, status, said in (
+            (None, READ_FAULT, "after fault\n"),
+            ("", REFUSED, "after 40 BadLog line 1 kind 4\n"),
+            (MOVING, REFUSED, "after 40 BadLog line 1 kind 1\n"),
+            ("".join(lines)[:-1], REFUSED, f"after 40 BadLog line {len(lines)} kind 4\n"),
+            (wrong, REFUSED, f"after 44 BadAfter line {at}\n"),
+            ("".join(wide), REFUSED, "after 45 OutsideBox\n"),
+            (Zeros(512 * 1024 * 1024 + 1), REFUSED, "after 29 TooLong 536870912\n"),
+        ):
+            files = TRACK_FILES | {"b.log": "x"} | ({} if text is None else {"e.log": text})
+            for words in ["track", *self.FILES, "b.log"], ["retrack", *self.FILES, "b.log"]:
+                self.expect([*words, "--after", "e.log"], files, status, err=said)
+            guard = ["guard", "--track", *self.FILES, "z", "b.log", "--after", "e.log"]
+            self.expect(guard, files | {"z": "x"}, status, err=said)
+        # An observation file that isn't accepted comes first.
+        self.expect(["track", *self.FILES, "b.log", "--after", "e.log"], TRACK_FILES | {"a.obs": ""}, REFUSED,
+                    err="obs 10 NotRinex line 1\n")
 
     def test_each_epoch_of_a_track_is_wanted(self):
         """Epochs that are left out, at the end or between others."""

@@ -1,7 +1,7 @@
 -- Options with a flag among them, one behind another.
 use Rattle.std.proofs.Common.{◌≡◌, List, [], ◌∷◌, ◌++◌, Option, Some, None, codes, refl, ap}
 use Rattle.clap.specs.Walk.{Text}
-use Rattle.command_words.specs.Stated.{IsNameIfGiven, Options, Neither, From, To, FromTo, ToFrom, Flag, Nowhere, Before, BehindFirst, Behind, flagged_words, station_words}
+use Rattle.command_words.specs.Stated.{IsNameIfGiven, Options, Neither, From, To, FromTo, ToFrom, Flag, Nowhere, Before, BehindFirst, Behind, after_words, flagged_words, station_words}
 use Rattle.command_words.proofs.LevelLemmas.{ArePlainItems, Flags, Item, Reads, item_words}
 use Rattle.command_words.proofs.StatedLemmas.{ArePlain}
 
@@ -33,6 +33,10 @@ abbrev pub station_items : Option Text → List Item → List Item
 station_items None items = items
 station_items (Some file) items = Reads (codes "--station") (codes "station") file ∷ items
 
+abbrev pub after_items : Option Text → List Item → List Item
+after_items None items = items
+after_items (Some file) items = Reads (codes "--after") (codes "after") file ∷ items
+
 flagged_same : (word : Text) (flag : Flag) (options : Options)
     → flagged_words word flag options ≡ item_words (flagged_items word flag options)
 flagged_same word Nowhere Neither = refl
@@ -56,12 +60,26 @@ flagged_same word Behind (To to) = refl
 flagged_same word Behind (FromTo from to) = refl
 flagged_same word Behind (ToFrom to from) = refl
 
-pub words_same : (word : Text) (station : Option Text) (flag : Flag) (options : Options)
-    → station_words station (flagged_words word flag options)
-    ≡ item_words (station_items station (flagged_items word flag options))
-words_same word None flag options = flagged_same word flag options
-words_same word (Some file) flag options =
-    ap (λ (words : List Text). codes "--station" ∷ file ∷ words) (flagged_same word flag options)
+-- the words and the items of what stands in front of others
+station_same : (station : Option Text) (words : List Text) (items : List Item) → words ≡ item_words items
+    → station_words station words ≡ item_words (station_items station items)
+station_same None words items same = same
+station_same (Some file) words items same =
+    ap (λ (more : List Text). codes "--station" ∷ file ∷ more) same
+
+after_same : (after : Option Text) (words : List Text) (items : List Item) → words ≡ item_words items
+    → after_words after words ≡ item_words (after_items after items)
+after_same None words items same = same
+after_same (Some file) words items same =
+    ap (λ (more : List Text). codes "--after" ∷ file ∷ more) same
+
+pub words_same : (word : Text) (station after : Option Text) (flag : Flag) (options : Options)
+    → station_words station (after_words after (flagged_words word flag options))
+    ≡ item_words (station_items station (after_items after (flagged_items word flag options)))
+words_same word station after flag options =
+    station_same station (after_words after (flagged_words word flag options))
+    (after_items after (flagged_items word flag options))
+    (after_same after (flagged_words word flag options) (flagged_items word flag options) (flagged_same word flag options))
 
 flagged_plain : (word : Text) (flag : Flag) (options : Options) → ArePlain options
     → ArePlainItems (flagged_items word flag options)
@@ -86,8 +104,19 @@ flagged_plain word Behind (To to) p = (p, tt)
 flagged_plain word Behind (FromTo from to) p = (p.0, (p.1, tt))
 flagged_plain word Behind (ToFrom to from) p = (p.1, (p.0, tt))
 
-pub items_plain : (word : Text) (station : Option Text) (flag : Flag) (options : Options)
-    → IsNameIfGiven station → ArePlain options
-    → ArePlainItems (station_items station (flagged_items word flag options))
-items_plain word None flag options name p = flagged_plain word flag options p
-items_plain word (Some file) flag options name p = (name, flagged_plain word flag options p)
+station_plain : (station : Option Text) (items : List Item) → IsNameIfGiven station
+    → ArePlainItems items → ArePlainItems (station_items station items)
+station_plain None items name plain = plain
+station_plain (Some file) items name plain = (name, plain)
+
+after_plain : (after : Option Text) (items : List Item) → IsNameIfGiven after
+    → ArePlainItems items → ArePlainItems (after_items after items)
+after_plain None items name plain = plain
+after_plain (Some file) items name plain = (name, plain)
+
+pub items_plain : (word : Text) (station after : Option Text) (flag : Flag) (options : Options)
+    → IsNameIfGiven station → IsNameIfGiven after → ArePlain options
+    → ArePlainItems (station_items station (after_items after (flagged_items word flag options)))
+items_plain word station after flag options file earlier p =
+    station_plain station (after_items after (flagged_items word flag options)) file
+    (after_plain after (flagged_items word flag options) earlier (flagged_plain word flag options p))

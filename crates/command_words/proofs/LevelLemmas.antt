@@ -35,9 +35,9 @@ track_shape = built_sub 4
 abbrev pub retrack_shape : Shape
 retrack_shape = built_sub 5
 
--- the commands on files differ in their names and flags alone
-abbrev pub files_shape : Text → List Text → Shape
-files_shape name flags = get_or (built (with_command bare (form_app (files_form name flags)))).subs 0 (built program).top
+-- the commands on files differ in their names, options and flags alone
+abbrev pub files_shape : Text → List Text → List Text → Shape
+files_shape name options flags = get_or (built (with_command bare (form_app (files_form name options flags)))).subs 0 (built program).top
 
 abbrev pub guard_shape : Shape
 guard_shape = built_sub 6

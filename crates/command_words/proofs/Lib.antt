@@ -8,3 +8,5 @@ pub mod StatedLemmas
 pub mod GuardLemmas
 pub mod FlagLemmas
 pub mod QuietLemmas
+pub mod TrackLemmas
+pub mod RetrackLemmas

@@ -1,14 +1,14 @@
--- Words of `solve` and `track` ask for them, quiet or not.
-use Rattle.std.proofs.Common.{◌≡◌, List, [], ◌∷◌, Option, Some, None, codes, refl, ap, ◌∙◌}
-use Rattle.std.specs.Prelude.{Bool, if◌then◌else◌, option_map}
+-- Words of `solve` ask for it, quiet or not.
+use Rattle.std.proofs.Common.{◌≡◌, List, [], ◌∷◌, Option, Some, None, codes, refl, sym, ap, ◌∙◌}
+use Rattle.std.specs.Prelude.{Bool, false, if◌then◌else◌, option_map}
 use Rattle.clap.specs.Kinds.{Kinds, or_else}
 use Rattle.clap.specs.Walk.{Text, Walk, nothing_held, is_empty}
 use Rattle.clap.specs.Simple.{Shape}
 use Rattle.clap.proofs.OnLiterals.{clap_on_literals}
-use Rattle.command_words.specs.Program.{quiet_flag}
-use Rattle.command_words.specs.Commands.{Epochs, Files, Command, Solve, Track, files_by, files_of, epochs_by, is_quiet, command_of}
-use Rattle.command_words.specs.Stated.{AreNames, Options, Neither, From, To, FromTo, ToFrom, Flag, Nowhere, Before, BehindFirst, Behind, from_text, to_text, is_given, flagged_words, quiet_words, station_words, QuietIsTaken}
-use Rattle.command_words.proofs.FlagLemmas.{flagged_items, items_plain, station_items, words_same}
+use Rattle.command_words.specs.Program.{file_options, quiet_flag}
+use Rattle.command_words.specs.Commands.{Epochs, Files, Command, Solve, files_by, files_of, epochs_by, is_quiet, command_of}
+use Rattle.command_words.specs.Stated.{AreNames, Options, Neither, From, To, FromTo, ToFrom, Flag, Nowhere, Before, BehindFirst, Behind, from_text, to_text, is_given, after_words, flagged_words, station_words, QuietIsTaken}
+use Rattle.command_words.proofs.FlagLemmas.{after_items, flagged_items, items_plain, station_items, words_same}
 use Rattle.command_words.proofs.LevelLemmas.{files_shape, Item, Level, Passes, items_walked, level, level_from, level_is, name_more, run, said_of}
 use Rattle.command_words.proofs.StatedLemmas.{ArePlain, plain_options, start, taken}
 
@@ -17,19 +17,19 @@ abbrev QuietSeen : Type 0
 QuietSeen = Kinds × Option Files × Bool
 
 abbrev quiet_seen : Level → QuietSeen
-quiet_seen l = (l.0, files_by l.1, is_quiet l.1)
+quiet_seen l = (l.0, files_by None l.1, is_quiet l.1)
 
 -- the names, and what the options say
 abbrev asked_of : Files → Option Text → Bool → Options → QuietSeen
 asked_of f station quiet options = (
   [],
-  files_of (Some f.obs) (Some f.nav) (Some f.settings) (Some f.log) (epochs_by (from_text options) (to_text options)) station,
+  files_of (Some f.obs) (Some f.nav) (Some f.settings) (Some f.log) (epochs_by (from_text options) (to_text options)) station None,
   quiet,
 )
 
-module _ (name : Text) (f : Files) (n : AreNames f) where
+module _ (f : Files) (n : AreNames f) where
   abbrev s : Shape
-  s = files_shape name quiet_flag
+  s = files_shape (codes "solve") file_options quiet_flag
 
   abbrev q₁ : Walk
   q₁ = taken s start 1 f.obs
@@ -54,7 +54,7 @@ module _ (name : Text) (f : Files) (n : AreNames f) where
 
   -- what stands behind the names
   abbrev behind : Option Text → Flag → Options → List Item
-  behind station flag options = station_items station (flagged_items (codes "--quiet") flag options)
+  behind station flag options = station_items station (after_items None (flagged_items (codes "--quiet") flag options))
 
   passes : (station : Option Text) (flag : Flag) (options : Options) → Passes s 5 q₄ (behind station flag options)
   unfolding clap_on_literals
@@ -145,34 +145,28 @@ module _ (name : Text) (f : Files) (n : AreNames f) where
 
   quiet_level : (flag : Flag) (options : Options) → ArePlain options
       → epochs_by (from_text options) (to_text options) ≡ Some f.epochs
-      → quiet_seen (level s (quiet_words f flag options)) ≡ ([], Some f, is_given flag)
+      → quiet_seen (level s (f.obs ∷ f.nav ∷ f.settings ∷ f.log ∷ station_words f.station (flagged_words (codes "--quiet") flag options)))
+      ≡ ([], Some (record f { after = None }), is_given flag)
   quiet_level flag options p e =
       ap quiet_seen (names_walked (station_words f.station (flagged_words (codes "--quiet") flag options))
-      ∙ ap (level_from s q₄) (words_same (codes "--quiet") f.station flag options)
-      ∙ items_walked s 5 q₄ (behind f.station flag options) (items_plain (codes "--quiet") f.station flag options n.4 p) (passes f.station flag options))
+      ∙ ap (level_from s q₄) (words_same (codes "--quiet") f.station None flag options)
+      ∙ items_walked s 5 q₄ (behind f.station flag options) (items_plain (codes "--quiet") f.station None flag options n.4 tt p) (passes f.station flag options))
       ∙ ended f.station flag options
       ∙ ap (λ (o : Option Epochs).
-      let all : QuietSeen = ([], files_of (Some f.obs) (Some f.nav) (Some f.settings) (Some f.log) o f.station, is_given flag) in all) e
+      let all : QuietSeen = ([], files_of (Some f.obs) (Some f.nav) (Some f.settings) (Some f.log) o f.station None, is_given flag) in all) e
 
 abbrev quiet_told : (Files → Bool → Command) → QuietSeen → Option Command
 quiet_told made l = if is_empty (or_else l.0 []) then option_map (λ files. made files l.2) l.1 else None
 
 solve_said : (words : List Text)
-    → command_of (codes "solve" ∷ words) ≡ quiet_told Solve (quiet_seen (level (files_shape (codes "solve") quiet_flag) words))
+    → command_of (codes "solve" ∷ words) ≡ quiet_told Solve (quiet_seen (level (files_shape (codes "solve") file_options quiet_flag) words))
 unfolding clap_on_literals
 solve_said words = said_of (codes "solve") words refl refl
 
-track_said : (words : List Text)
-    → command_of (codes "track" ∷ words) ≡ quiet_told Track (quiet_seen (level (files_shape (codes "track") quiet_flag) words))
-unfolding clap_on_literals
-track_said words = said_of (codes "track") words refl refl
-
-pub solve_taken : QuietIsTaken (codes "solve") Solve
-solve_taken f flag options names e =
-    solve_said (quiet_words f flag options)
-    ∙ ap (quiet_told Solve) (quiet_level (codes "solve") f names flag options (plain_options options f.epochs e) e)
-
-pub track_taken : QuietIsTaken (codes "track") Track
-track_taken f flag options names e =
-    track_said (quiet_words f flag options)
-    ∙ ap (quiet_told Track) (quiet_level (codes "track") f names flag options (plain_options options f.epochs e) e)
+pub solve_taken : QuietIsTaken (codes "solve") false Solve
+solve_taken f flag options names none e =
+    ap (λ (after : Option Text).
+    command_of (codes "solve" ∷ f.obs ∷ f.nav ∷ f.settings ∷ f.log ∷ station_words f.station (after_words after (flagged_words (codes "--quiet") flag options)))) none
+    ∙ solve_said (f.obs ∷ f.nav ∷ f.settings ∷ f.log ∷ station_words f.station (flagged_words (codes "--quiet") flag options))
+    ∙ ap (quiet_told Solve) (quiet_level f names flag options (plain_options options f.epochs e) e)
+    ∙ ap (λ (after : Option Text). Some (Solve (record f { after = after }) (is_given flag))) (sym none)

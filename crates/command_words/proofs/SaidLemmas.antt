@@ -109,6 +109,15 @@ file_texts : (rows : List Row) → Required check_shape.rules rows → HaveTexts
 unfolding clap_on_literals
 file_texts rows k = (k.0 refl, (k.1.0 refl, (k.1.1.0 refl, (k.1.1.1.0 refl, tt))))
 
+-- the same with `--after`
+retrack_set : AllSet retrack_shape.rules
+unfolding clap_on_literals
+retrack_set = (record { set = inl refl; some = inl refl }, (record { set = inl refl; some = inl refl }, (record { set = inl refl; some = inl refl }, (record { set = inl refl; some = inl refl }, (record { set = inl refl; some = inl refl }, (record { set = inl refl; some = inl refl }, (record { set = inl refl; some = inl refl }, (record { set = inl refl; some = inl refl }, tt))))))))
+
+retrack_texts : (rows : List Row) → Required retrack_shape.rules rows → HaveTexts file_ids rows
+unfolding clap_on_literals
+retrack_texts rows k = (k.0 refl, (k.1.0 refl, (k.1.1.0 refl, (k.1.1.1.0 refl, tt))))
+
 -- the same with `--quiet`
 quiet_set : AllSet solve_shape.rules
 unfolding clap_on_literals
@@ -139,6 +148,15 @@ quiet_texts : (rows : List Row) → Required solve_shape.rules rows → HaveText
 unfolding clap_on_literals
 quiet_texts rows k = (k.0 refl, (k.1.0 refl, (k.1.1.0 refl, (k.1.1.1.0 refl, tt))))
 
+-- with both
+track_set : AllSet track_shape.rules
+unfolding clap_on_literals
+track_set = (record { set = inl refl; some = inl refl }, (record { set = inl refl; some = inl refl }, (record { set = inl refl; some = inl refl }, (record { set = inl refl; some = inl refl }, (record { set = inl refl; some = inl refl }, (record { set = inl refl; some = inl refl }, (record { set = inl refl; some = inl refl }, (record { set = inl refl; some = inl refl }, (record { set = inr refl; some = inr (λ none. cc) }, tt)))))))))
+
+track_texts : (rows : List Row) → Required track_shape.rules rows → HaveTexts file_ids rows
+unfolding clap_on_literals
+track_texts rows k = (k.0 refl, (k.1.0 refl, (k.1.1.0 refl, (k.1.1.1.0 refl, tt))))
+
 solve_says : (words : List Text) → level_fault solve_shape [] nothing_held words false [] ≡ []
     → SaysCommand (Some (rows_at solve_shape words))
 unfolding clap_on_literals
@@ -152,40 +170,16 @@ check_says words e = inr (inr (inr (inl (record { rows = rows_after check_shape.
 track_says : (words : List Text) → level_fault track_shape [] nothing_held words false [] ≡ []
     → SaysCommand (Some (rows_at track_shape words))
 unfolding clap_on_literals
-track_says words e = inr (inr (inr (inr (inl (record { rows = rows_after track_shape.rules [] words; said_is = refl; texts = quiet_texts (rows_after track_shape.rules [] words) (texts_of track_shape words quiet_set e) })))))
+track_says words e = inr (inr (inr (inr (inl (record { rows = rows_after track_shape.rules [] words; said_is = refl; texts = track_texts (rows_after track_shape.rules [] words) (texts_of track_shape words track_set e) })))))
 
 retrack_says : (words : List Text) → level_fault retrack_shape [] nothing_held words false [] ≡ []
     → SaysCommand (Some (rows_at retrack_shape words))
 unfolding clap_on_literals
-retrack_says words e = inr (inr (inr (inr (inr (inl (record { rows = rows_after retrack_shape.rules [] words; said_is = refl; texts = file_texts (rows_after retrack_shape.rules [] words) (texts_of retrack_shape words files_set e) }))))))
+retrack_says words e = inr (inr (inr (inr (inr (inl (record { rows = rows_after retrack_shape.rules [] words; said_is = refl; texts = retrack_texts (rows_after retrack_shape.rules [] words) (texts_of retrack_shape words retrack_set e) }))))))
 
 guard_set : AllSet guard_shape.rules
 unfolding clap_on_literals
-guard_set = (
-  record { set = inl refl; some = inl refl },
-  (
-    record { set = inl refl; some = inl refl },
-    (
-      record { set = inl refl; some = inl refl },
-      (
-        record { set = inl refl; some = inl refl },
-        (
-          record { set = inl refl; some = inl refl },
-          (
-            record { set = inl refl; some = inl refl },
-            (
-              record { set = inl refl; some = inl refl },
-              (
-                record { set = inl refl; some = inl refl },
-                (record { set = inr refl; some = inr (λ none. cc) }, tt),
-              ),
-            ),
-          ),
-        ),
-      ),
-    ),
-  ),
-)
+guard_set = (record { set = inl refl; some = inl refl }, (record { set = inl refl; some = inl refl }, (record { set = inl refl; some = inl refl }, (record { set = inl refl; some = inl refl }, (record { set = inl refl; some = inl refl }, (record { set = inl refl; some = inl refl }, (record { set = inl refl; some = inl refl }, (record { set = inl refl; some = inl refl }, (record { set = inl refl; some = inl refl }, (record { set = inr refl; some = inr (λ none. cc) }, tt))))))))))
 
 guard_texts : (rows : List Row) → Required guard_shape.rules rows → HaveTexts guard_ids rows
 unfolding clap_on_literals

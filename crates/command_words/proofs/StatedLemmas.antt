@@ -1,13 +1,14 @@
 -- Words of the stated form ask for their command.
-use Rattle.std.proofs.Common.{◌≡◌, ℕ, Bool, true, false, List, [], ◌∷◌, Option, Some, None, codes, refl, ap, ◌∙◌}
+use Rattle.std.proofs.Common.{◌≡◌, ℕ, Bool, true, false, List, [], ◌∷◌, Option, Some, None, codes, refl, sym, ap, ◌∙◌}
 use Rattle.std.specs.Prelude.{option_map, if◌then◌else◌}
 use Rattle.clap.specs.Kinds.{Kinds, or_else}
 use Rattle.clap.specs.Walk.{Text, Walk, idle, to_positional, arg_by_index, nothing_held, is_empty}
 use Rattle.clap.specs.Simple.{Shape}
 use Rattle.clap.proofs.OnLiterals.{clap_on_literals}
+use Rattle.command_words.specs.Program.{file_options}
 use Rattle.command_words.specs.Numbers.{seed_number, count_number, epoch_number, last_epoch}
-use Rattle.command_words.specs.Commands.{Epochs, Files, Command, Judge, Pave, Check, Retrack, files_by, files_of, epochs_of, epochs_by, command_by, command_of, make_of}
-use Rattle.command_words.specs.Stated.{begins_with_dash, IsName, IsNameIfGiven, AreNames, Options, Neither, From, To, FromTo, ToFrom, from_text, to_text, file_words, option_words, quiet_if, station_words, JudgeIsTaken, PaveIsTaken, FilesAreTaken, MakeIsTaken}
+use Rattle.command_words.specs.Commands.{Epochs, Files, Command, Judge, Pave, Check, files_by, files_of, epochs_of, epochs_by, command_by, command_of, make_of}
+use Rattle.command_words.specs.Stated.{begins_with_dash, IsName, IsNameIfGiven, AreNames, Options, Neither, From, To, FromTo, ToFrom, from_text, to_text, after_words, option_words, quiet_if, station_words, JudgeIsTaken, PaveIsTaken, FilesAreTaken, MakeIsTaken}
 use Rattle.command_words.proofs.LevelLemmas.{judge_shape, pave_shape, files_shape, make_shape, Item, Flags, Level, level, level_from, level_is, at, items_walked, name_more, read, read_more, run, said_of}
 use Rattle.command_words.proofs.NumberLemmas.{number_plain}
 
@@ -110,20 +111,20 @@ make_taken seed_text epochs_text seed epochs s e =
     make_is seed_text epochs_text (number_plain 0 4294967295 seed_text seed s) (number_plain 1 240 epochs_text epochs e)
     ∙ ap (λ n. make_of n (count_number epochs_text)) s ∙ ap (make_of (Some seed)) e
 
--- ---- `check OBS NAV SETTINGS LOG`, `retrack` with the same words, and their options
+-- ---- `check OBS NAV SETTINGS LOG`, and its options
 
 -- the faults of a level on files, and the files that its matches hold
 abbrev FilesSeen : Type 0
 FilesSeen = Kinds × Option Files
 
 abbrev files_seen : Level → FilesSeen
-files_seen l = (l.0, files_by l.1)
+files_seen l = (l.0, files_by None l.1)
 
 -- the names, and what the options say
 abbrev asked_of : Files → Option Text → Options → FilesSeen
 asked_of f station options = (
   [],
-  files_of (Some f.obs) (Some f.nav) (Some f.settings) (Some f.log) (epochs_by (from_text options) (to_text options)) station,
+  files_of (Some f.obs) (Some f.nav) (Some f.settings) (Some f.log) (epochs_by (from_text options) (to_text options)) station None,
 )
 
 -- the texts of the options don't begin with a dash
@@ -154,9 +155,9 @@ plain_options (ToFrom to from) epochs e =
     let k = epochs_given (epoch_number from) (epoch_number to) epochs e in
     (number_plain 1 last_epoch from k.0.0 k.0.1, number_plain 1 last_epoch to k.1.0 k.1.1)
 
-module _ (name : Text) (f : Files) (n : AreNames f) where
+module _ (f : Files) (n : AreNames f) where
   abbrev s : Shape
-  s = files_shape name []
+  s = files_shape (codes "check") file_options []
 
   abbrev f₁ : Walk
   f₁ = taken s start 1 f.obs
@@ -247,30 +248,26 @@ module _ (name : Text) (f : Files) (n : AreNames f) where
 
   files_level : (options : Options) → ArePlain options
       → epochs_by (from_text options) (to_text options) ≡ Some f.epochs
-      → files_seen (level s (file_words f options)) ≡ ([], Some f)
+      → files_seen (level s (f.obs ∷ f.nav ∷ f.settings ∷ f.log ∷ station_words f.station (option_words options)))
+      ≡ ([], Some (record f { after = None }))
   files_level options p e =
       ap files_seen (names_walked (station_words f.station (option_words options))
       ∙ station_walked f.station (option_words options) n.4 ∙ options_walked f.station options p)
       ∙ ended f.station options
-      ∙ ap (λ (o : Option Epochs). let both : FilesSeen = ([], files_of (Some f.obs) (Some f.nav) (Some f.settings) (Some f.log) o f.station) in both) e
+      ∙ ap (λ (o : Option Epochs). let both : FilesSeen = ([], files_of (Some f.obs) (Some f.nav) (Some f.settings) (Some f.log) o f.station None) in both) e
 
 abbrev files_said : (Files → Command) → FilesSeen → Option Command
 files_said made l = if is_empty (or_else l.0 []) then option_map made l.1 else None
 
 check_said : (words : List Text)
-    → command_of (codes "check" ∷ words) ≡ files_said Check (files_seen (level (files_shape (codes "check") []) words))
+    → command_of (codes "check" ∷ words) ≡ files_said Check (files_seen (level (files_shape (codes "check") file_options []) words))
 unfolding clap_on_literals
 check_said words = said_of (codes "check") words refl refl
 
-retrack_said : (words : List Text)
-    → command_of (codes "retrack" ∷ words) ≡ files_said Retrack (files_seen (level (files_shape (codes "retrack") []) words))
-unfolding clap_on_literals
-retrack_said words = said_of (codes "retrack") words refl refl
-
-pub check_taken : FilesAreTaken (codes "check") Check
-check_taken f options names e =
-    check_said (file_words f options) ∙ ap (files_said Check) (files_level (codes "check") f names options (plain_options options f.epochs e) e)
-
-pub retrack_taken : FilesAreTaken (codes "retrack") Retrack
-retrack_taken f options names e =
-    retrack_said (file_words f options) ∙ ap (files_said Retrack) (files_level (codes "retrack") f names options (plain_options options f.epochs e) e)
+pub check_taken : FilesAreTaken (codes "check") false Check
+check_taken f options names none e =
+    ap (λ (after : Option Text).
+    command_of (codes "check" ∷ f.obs ∷ f.nav ∷ f.settings ∷ f.log ∷ station_words f.station (after_words after (option_words options)))) none
+    ∙ check_said (f.obs ∷ f.nav ∷ f.settings ∷ f.log ∷ station_words f.station (option_words options))
+    ∙ ap (files_said Check) (files_level f names options (plain_options options f.epochs e) e)
+    ∙ ap (λ (after : Option Text). Some (Check (record f { after = after }))) (sym none)

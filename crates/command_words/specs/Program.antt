@@ -50,13 +50,17 @@ pave_form = record {
 abbrev pub file_options : List Text
 file_options = codes "from" ∷ codes "to" ∷ codes "station" ∷ []
 
+-- of a receiver that moves `--after FILE` too
+abbrev pub track_options : List Text
+track_options = codes "from" ∷ codes "to" ∷ codes "station" ∷ codes "after" ∷ []
+
 -- `solve OBS NAV SETTINGS LOG`, and `check`, `track` and `retrack` with the same words, each with
--- its flags
-abbrev pub files_form : Text → List Text → Form
-files_form name flags = record {
+-- its options and flags
+abbrev pub files_form : Text → List Text → List Text → Form
+files_form name options flags = record {
   name = name;
   words = codes "obs" ∷ codes "nav" ∷ codes "settings" ∷ codes "log" ∷ [];
-  options = file_options;
+  options = options;
   flags = flags;
 }
 
@@ -65,7 +69,7 @@ abbrev pub guard_form : Form
 guard_form = record {
   name = codes "guard";
   words = codes "obs" ∷ codes "nav" ∷ codes "settings" ∷ codes "zones" ∷ codes "log" ∷ [];
-  options = file_options;
+  options = track_options;
   flags = codes "track" ∷ [];
 }
 
@@ -79,9 +83,10 @@ make_form = record {
 }
 
 abbrev pub forms : List Form
-forms = judge_form ∷ pave_form ∷ files_form (codes "solve") quiet_flag
-    ∷ files_form (codes "check") [] ∷ files_form (codes "track") quiet_flag
-    ∷ files_form (codes "retrack") [] ∷ guard_form ∷ make_form ∷ []
+forms = judge_form ∷ pave_form ∷ files_form (codes "solve") file_options quiet_flag
+    ∷ files_form (codes "check") file_options []
+    ∷ files_form (codes "track") track_options quiet_flag
+    ∷ files_form (codes "retrack") track_options [] ∷ guard_form ∷ make_form ∷ []
 
 abbrev pub bare : App
 bare = record {

@@ -23,6 +23,7 @@ files_asked f = record {
   settings = f.settings.now;
   station = option_map (λ name. name.now) f.station;
   log = f.log.now;
+  after = option_map (λ name. name.now) f.after;
   epochs = epochs_asked f.selection;
 }
 

@@ -21,6 +21,11 @@ abbrev pub station_words : Option Text → List Text → List Text
 station_words None others = others
 station_words (Some file) others = codes "--station" ∷ file ∷ others
 
+-- the file of an earlier log in front of them, where it is given
+abbrev pub after_words : Option Text → List Text → List Text
+after_words None others = others
+after_words (Some file) others = codes "--after" ∷ file ∷ others
+
 -- these: each at most once, in either order
 pub data Options : Type 0 where
   Neither : Options
@@ -52,7 +57,8 @@ to_text (ToFrom to from) = Some to
 
 abbrev pub file_words : Files → Options → List Text
 file_words f options =
-    f.obs ∷ f.nav ∷ f.settings ∷ f.log ∷ station_words f.station (option_words options)
+    f.obs ∷ f.nav ∷ f.settings ∷ f.log
+    ∷ station_words f.station (after_words f.after (option_words options))
 
 -- a flag among them: nowhere, or before the options, behind the first, or behind them all
 pub data Flag : Type 0 where
@@ -83,13 +89,13 @@ flagged_words word Behind options = option_words options ++ word ∷ []
 abbrev pub quiet_words : Files → Flag → Options → List Text
 quiet_words f flag options =
     f.obs ∷ f.nav ∷ f.settings ∷ f.log
-    ∷ station_words f.station (flagged_words (codes "--quiet") flag options)
+    ∷ station_words f.station (after_words f.after (flagged_words (codes "--quiet") flag options))
 
 -- `--track` among those of files and zones
 abbrev pub guard_words : Files → Text → Flag → Options → List Text
 guard_words f zones flag options =
     f.obs ∷ f.nav ∷ f.settings ∷ zones ∷ f.log
-    ∷ station_words f.station (flagged_words (codes "--track") flag options)
+    ∷ station_words f.station (after_words f.after (flagged_words (codes "--track") flag options))
 
 -- `--quiet` behind the words of rows, where it is given
 abbrev pub quiet_if : Bool → List Text
@@ -103,6 +109,7 @@ IsNameIfGiven (Some text) = IsName text
 abbrev pub AreNames : Files → Type 0
 AreNames f =
     IsName f.obs × IsName f.nav × IsName f.settings × IsName f.log × IsNameIfGiven f.station
+    × IsNameIfGiven f.after
 
 -- ---- words of the stated form ask for their command
 
@@ -113,21 +120,29 @@ abbrev pub PaveIsTaken : Type 0
 PaveIsTaken = (rows log : Text) (quiet : Bool) → IsName rows → IsName log
     → command_of (codes "pave" ∷ rows ∷ log ∷ quiet_if quiet) ≡ Some (Pave rows log quiet)
 
+-- whether a command takes an earlier log
+abbrev pub MayHaveEarlier : (moving : Bool) → Option Text → Type 0
+MayHaveEarlier true after = Unit {0}
+MayHaveEarlier false after = after ≡ None
+
 -- the numbers of the options are those of the epochs
-abbrev pub FilesAreTaken : Text → (Files → Command) → Type 0
-FilesAreTaken name asked = (files : Files) (options : Options) → AreNames files
+abbrev pub FilesAreTaken : Text → (moving : Bool) → (Files → Command) → Type 0
+FilesAreTaken name moving asked = (files : Files) (options : Options) → AreNames files
+    → MayHaveEarlier moving files.after
     → epochs_by (from_text options) (to_text options) ≡ Some files.epochs
     → command_of (name ∷ file_words files options) ≡ Some (asked files)
 
 -- the same of a command that may be quiet
-abbrev pub QuietIsTaken : Text → (Files → (quiet : Bool) → Command) → Type 0
-QuietIsTaken name asked = (files : Files) (flag : Flag) (options : Options) → AreNames files
+abbrev pub QuietIsTaken : Text → (moving : Bool) → (Files → (quiet : Bool) → Command) → Type 0
+QuietIsTaken name moving asked = (files : Files) (flag : Flag) (options : Options) → AreNames files
+    → MayHaveEarlier moving files.after
     → epochs_by (from_text options) (to_text options) ≡ Some files.epochs
     → command_of (name ∷ quiet_words files flag options) ≡ Some (asked files (is_given flag))
 
 abbrev pub GuardIsTaken : Type 0
 GuardIsTaken = (files : Files) (zones : Text) (flag : Flag) (options : Options) → AreNames files
-    → IsName zones → epochs_by (from_text options) (to_text options) ≡ Some files.epochs
+    → IsName zones → MayHaveEarlier (is_given flag) files.after
+    → epochs_by (from_text options) (to_text options) ≡ Some files.epochs
     → command_of (codes "guard" ∷ guard_words files zones flag options)
     ≡ Some (Guard files zones (is_given flag))
 

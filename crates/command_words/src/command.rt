@@ -7,8 +7,8 @@ pub struct Selection {
     pub to: u32,
 }
 
-/// The names of a receiver's files, of a station's where one is given, and of a log, and the epochs
-/// that are taken.
+/// The names of a receiver's files, of a station's where one is given, of a log, and of an earlier
+/// log where a track goes on behind one, and the epochs that are taken.
 #[derive(Clone, Copy, Debug, PartialEq, Eq)]
 pub struct Files<'a> {
     pub obs: &'a str,
@@ -16,6 +16,7 @@ pub struct Files<'a> {
     pub settings: &'a str,
     pub station: Option<&'a str>,
     pub log: &'a str,
+    pub after: Option<&'a str>,
     pub selection: Selection,
 }
 

@@ -1,21 +1,22 @@
 //! Laws of the definitions.
 
-ghost use Rattle.std.specs.Prelude.{codes};
+ghost use Rattle.std.specs.Prelude.{codes, false, true};
 ghost use Rattle.command_words.specs.Commands.{Solve, Check, Track, Retrack};
 ghost use Rattle.command_words.specs.Stated.{JudgeIsTaken, PaveIsTaken, FilesAreTaken};
 ghost use Rattle.command_words.specs.Stated.{QuietIsTaken, GuardIsTaken, MakeIsTaken};
 ghost use Rattle.command_words.specs.Stated.{TakenIsCommand};
 
 /// Words of the stated form ask for their command: its name, its words, of which none begins with a
-/// dash, then `--station FILE` where it is given, and then its other options, each at most once.
+/// dash, then `--station FILE` where it is given, then, of a track, `--after FILE` where it is given,
+/// and then its other options, each at most once.
 /// `--quiet` or `--track` may stand between these. Each number is decimal digits in its range.
 pub fn stated_words_are_taken()
     ensures judge { JudgeIsTaken }
     ensures pave { PaveIsTaken }
-    ensures solve { QuietIsTaken (codes "solve") Solve }
-    ensures check { FilesAreTaken (codes "check") Check }
-    ensures track { QuietIsTaken (codes "track") Track }
-    ensures retrack { FilesAreTaken (codes "retrack") Retrack }
+    ensures solve { QuietIsTaken (codes "solve") false Solve }
+    ensures check { FilesAreTaken (codes "check") false Check }
+    ensures track { QuietIsTaken (codes "track") true Track }
+    ensures retrack { FilesAreTaken (codes "retrack") true Retrack }
     ensures guard { GuardIsTaken }
     ensures make { MakeIsTaken }
 {}

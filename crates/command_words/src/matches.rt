@@ -9,8 +9,9 @@ ghost use Rattle.clap.specs.Values.{kind_of};
 ghost use Rattle.clap.specs.Walk.{rows_of, first_of};
 ghost use Rattle.command_words.specs.Program.{program};
 ghost use Rattle.command_words.specs.Numbers.{epoch_or};
-ghost use Rattle.command_words.specs.Commands.{judge_by, pave_by, files_by, is_said, is_quiet};
-ghost use Rattle.command_words.specs.Commands.{solve_by, track_by, guard_by, make_by};
+ghost use Rattle.command_words.specs.Commands.{judge_by, pave_by, files_by, track_files_by, is_said};
+ghost use Rattle.command_words.specs.Commands.{is_alone, is_quiet, solve_by, track_by, guard_by};
+ghost use Rattle.command_words.specs.Commands.{make_by};
 ghost use Rattle.command_words.specs.Commands.{epochs_by, command_by, command_said};
 ghost use Rattle.command_words.specs.Commands.{command_of};
 ghost use Rattle.command_words.specs.Seen.{texts, epochs_asked, files_asked, asked, IsSelection};
@@ -88,11 +89,11 @@ fn command_by<'a>(name: &str, found: &ArgMatches<'a>) -> Option<Command<'a>>
     } else if name == "solve" {
         solve_by(found)
     } else if name == "check" {
-        Some(Command::Check(files_by(found)?))
+        Some(Command::Check(files_by(found, None)?))
     } else if name == "track" {
         track_by(found)
     } else if name == "retrack" {
-        Some(Command::Retrack(files_by(found)?))
+        Some(Command::Retrack(track_files_by(found)?))
     } else if name == "guard" {
         guard_by(found)
     } else if name == "make" {
@@ -146,9 +147,11 @@ fn pave_by<'a>(found: &ArgMatches<'a>) -> Option<Command<'a>>
     Some(Command::Pave { rows, log, quiet })
 }
 
-/// `OBS NAV SETTINGS LOG`, `--from N`, `--to N` and `--station FILE`.
-fn files_by<'a>(found: &ArgMatches<'a>) -> Option<Files<'a>>
-    ensures files { option_map files_asked result ≡ files_by (rows_of (found_of found.now)) }
+/// `OBS NAV SETTINGS LOG`, `--from N`, `--to N` and `--station FILE`, with the name of this earlier
+/// log.
+fn files_by<'a>(found: &ArgMatches<'a>, after: Option<&'a str>) -> Option<Files<'a>>
+    ensures files { option_map files_asked result
+        ≡ files_by (option_map (λ t. t.now) after.entry) (rows_of (found_of found.now)) }
     ensures ranges { IfSome result (λ files. IsSelection files.selection) }
 {
     let obs = text_of(found, "obs")?;
@@ -163,38 +166,62 @@ fn files_by<'a>(found: &ArgMatches<'a>) -> Option<Files<'a>>
         settings,
         station,
         log,
+        after,
         selection,
     })
 }
 
-/// `solve` with these, and `--quiet`.
+/// The same with `--after FILE`.
+fn track_files_by<'a>(found: &ArgMatches<'a>) -> Option<Files<'a>>
+    ensures files { option_map files_asked result
+        ≡ track_files_by (rows_of (found_of found.now)) }
+    ensures ranges { IfSome result (λ files. IsSelection files.selection) }
+{
+    files_by(found, text_of(found, "after"))
+}
+
+/// `solve` with these but an earlier log, and `--quiet`.
 fn solve_by<'a>(found: &ArgMatches<'a>) -> Option<Command<'a>>
     ensures command { option_map asked result ≡ solve_by (rows_of (found_of found.now)) }
     ensures ranges { IfSome result HasRanges }
 {
-    let files = files_by(found)?;
+    let files = files_by(found, None)?;
     let quiet = is_quiet(found);
     Some(Command::Solve { files, quiet })
 }
 
-/// `track` with the same.
+/// `track` with these, and `--quiet`.
 fn track_by<'a>(found: &ArgMatches<'a>) -> Option<Command<'a>>
     ensures command { option_map asked result ≡ track_by (rows_of (found_of found.now)) }
     ensures ranges { IfSome result HasRanges }
 {
-    let files = files_by(found)?;
+    let files = track_files_by(found)?;
     let quiet = is_quiet(found);
     Some(Command::Track { files, quiet })
 }
 
-/// `OBS NAV SETTINGS ZONES LOG`, `--from N`, `--to N`, `--station FILE` and `--track`.
+/// Whether there is an earlier log and no track, which could go on behind it.
+fn is_alone(after: Option<&str>, tracked: bool) -> bool
+    ensures { result ≡ is_alone (option_map (λ t. t.now) after.entry) tracked }
+{
+    match after {
+        Some(_) => !tracked,
+        None => false,
+    }
+}
+
+/// `OBS NAV SETTINGS ZONES LOG`, `--from N`, `--to N`, `--station FILE` and `--track`, and with that
+/// `--after FILE`.
 fn guard_by<'a>(found: &ArgMatches<'a>) -> Option<Command<'a>>
     ensures command { option_map asked result ≡ guard_by (rows_of (found_of found.now)) }
     ensures ranges { IfSome result HasRanges }
 {
-    let files = files_by(found)?;
+    let files = track_files_by(found)?;
     let zones = text_of(found, "zones")?;
     let tracked = is_said(text_of(found, "track"));
+    if is_alone(files.after, tracked) {
+        return None;
+    }
     Some(Command::Guard {
         files,
         zones,

@@ -24,6 +24,9 @@ const ON_FILES: &[&str] = &["obs", "nav", "settings", "log"];
 /// The options of such a command: the epochs that are taken, and the file of a station.
 const OPTIONS: &[&str] = &["from", "to", "station"];
 
+/// The options of a command on the files of a receiver that moves: an earlier log too.
+const TRACK_OPTIONS: &[&str] = &["from", "to", "station", "after"];
+
 /// The flag of a command that writes a log and prints its report.
 const QUIET: &[&str] = &["quiet"];
 
@@ -56,19 +59,19 @@ static FORMS: [Form<'static>; 8] = [
     Form {
         name: "track",
         words: ON_FILES,
-        options: OPTIONS,
+        options: TRACK_OPTIONS,
         flags: QUIET,
     },
     Form {
         name: "retrack",
         words: ON_FILES,
-        options: OPTIONS,
+        options: TRACK_OPTIONS,
         flags: &[],
     },
     Form {
         name: "guard",
         words: &["obs", "nav", "settings", "zones", "log"],
-        options: OPTIONS,
+        options: TRACK_OPTIONS,
         flags: &["track"],
     },
     Form {

@@ -11,9 +11,12 @@ use Rattle.input_files.proofs.GrammarLemmas.{no_first}
 use Rattle.error_bounds.specs.Texts as settings
 use Rattle.rinex_nav.specs.Records.{Broadcast}
 use Rattle.rinex_obs.specs.declared.sought.Sought.{Sought}
-use Rattle.input_files.specs.Inputs.{InputsValue, ReadsBehindNav, ReadsFor, ReadsNav, ReadsObs, ReadsStation, StationValue}
+use Rattle.grid_model.specs.Boxes.{GridBox}
+use Rattle.input_files.specs.Earlier.{earlier_text}
+use Rattle.input_files.specs.Inputs.{InputsValue, ReadsAfter, ReadsBehind, ReadsBehindNav, ReadsFor, ReadsNav, ReadsObs, ReadsReceiver, ReadsStation, StationValue}
 use Rattle.input_files.specs.Inputs.{input_files, inputs_value, message_of, nav_text, obs_text}
-use Rattle.input_files.specs.Inputs.{settings_text, sought_of, station_text, wants_position}
+use Rattle.moving_tube.specs.Roots.{Before}
+use Rattle.input_files.specs.Inputs.{search_of, settings_text, sought_of, station_text, wants_position}
 use Rattle.input_files.specs.Logs.{log_text}
 use Rattle.input_files.specs.Reading.{IsBrokenOff, MayBreak, NeverBreaks, ReadsFile, Settles, Text}
 use Rattle.input_files.specs.Reading.{file_in, limit_of, valued}
@@ -106,16 +109,36 @@ module _ (moving : Bool) (limits : Limits) (names : words.Files) (bytes : List �
   )
   nav_before s r (inr (n, is, e)) = inr (n, still (nav_text (message_of s)) names.nav (Err n) apart.nav is, e)
 
-  inputs_before : (r : Result InputsValue Notice)
-      → ReadsFor moving limits names NeverBreaks (Some later) r
-      → ReadsFor moving limits names NeverBreaks (Some told) r
-  inputs_before r (inl (s, is, more)) = inl (
+  receiver_before : (r : Result InputsValue Notice)
+      → ReadsReceiver moving limits names NeverBreaks (Some later) r
+      → ReadsReceiver moving limits names NeverBreaks (Some told) r
+  receiver_before r (inl (s, is, more)) = inl (
     s,
     still (settings_text moving (is_some names.station)) names.settings (Ok s) apart.settings is,
     nav_before s r more,
   )
-  inputs_before r (inr (n, is, e)) =
+  receiver_before r (inr (n, is, e)) =
       inr (n, still (settings_text moving (is_some names.station)) names.settings (Err n) apart.settings is, e)
+
+  after_before : (search : GridBox) (name : Option (List ℕ)) → IfSome name (λ n. n ≢ log)
+      → (r : Result (Option Before) Notice) → ReadsAfter limits search name NeverBreaks (Some later) r
+      → ReadsAfter limits search name NeverBreaks (Some told) r
+  after_before search None other r reads = reads
+  after_before search (Some name) other r reads = still (earlier_text search) name r other reads
+
+  behind_before : (i : InputsValue) (r : Result InputsValue Notice)
+      → ReadsBehind limits names i NeverBreaks (Some later) r
+      → ReadsBehind limits names i NeverBreaks (Some told) r
+  behind_before i r (inl (left, is, e)) =
+      inl (left, after_before (search_of i) names.after apart.after (Ok left) is, e)
+  behind_before i r (inr (n, is, e)) =
+      inr (n, after_before (search_of i) names.after apart.after (Err n) is, e)
+
+  inputs_before : (r : Result InputsValue Notice)
+      → ReadsFor moving limits names NeverBreaks (Some later) r
+      → ReadsFor moving limits names NeverBreaks (Some told) r
+  inputs_before r (inl (i, is, more)) = inl (i, receiver_before (Ok i) is, behind_before i r more)
+  inputs_before r (inr (n, is, e)) = inr (n, receiver_before (Err n) is, e)
 
   -- ---- the log is read as it was written
 

@@ -1,5 +1,5 @@
 -- What `retrack` says of a log, against the files.
-use Rattle.std.proofs.Common.{ℕ, Result, refl}
+use Rattle.std.proofs.Common.{ℕ, Result}
 use Rattle.std.specs.Prelude.{IfOk}
 use Rattle.epoch_selection.specs.declared.selection.Selection.{Selection}
 use Rattle.grid_model.specs.Boxes.{GridBox}
@@ -35,8 +35,8 @@ module _ (chosen : Selection) (f : Checked) (search : GridBox) (speed : ℕ)
     speed = speed;
     is_tube = is_tube;
     accepted = accepted;
-    found = λ k path begins goes fits. found_by (meaning_of i) (tube_of chosen i search speed)
-        i.settings.rules (log_value f.log) boxes k path refl accepted begins goes fits;
+    found = λ k left path begins goes fits. found_by (meaning_of i) (tube_of chosen i search speed)
+        i.settings.rules (log_value f.log) boxes k left path accepted begins goes fits;
   }
 
   -- what is known of a verdict by the checker's clauses

@@ -11,6 +11,7 @@ use Rattle.error_bounds.specs.Reading.{centre_with, IsRoot, value_of_settings}
 use Rattle.error_bounds.specs.Texts.{SettingsValue}
 use Rattle.input_files.specs.Inputs.{InputsValue, inputs_value}
 use Rattle.input_files.specs.declared.inputs.Inputs.{Inputs}
+use Rattle.moving_tube.specs.Endings.{before_value}
 use Rattle.moving_tube.specs.Roots.{Before, handed_on, kept_of, root_for}
 use Rattle.log_lines.proofs.ValueLemmas.{same_rules}
 use Rattle.paving_log_check.specs.Admissible.{Admits, AdmitsFrom, IsDue, IsOf}
@@ -230,12 +231,17 @@ module _ (i j : Inputs) (same : inputs_value i ≡ inputs_value j) where
       (tube_searches (tube_of chosen j search speed) blocks)
   tracks_same chosen search speed blocks =
       let restart = i.settings.restart in
-      subst (λ (r : Bool).
-      AreSameSearches (searches_from speed restart search None (epochs_of chosen i) blocks)
-      (searches_from speed r search None (epochs_of chosen j) blocks))
+      let before = before_value i.after in
+      subst (λ (b : Option Before).
+      AreSameSearches (searches_from speed restart search before (epochs_of chosen i) blocks)
+      (searches_from speed j.settings.restart search b (epochs_of chosen j) blocks))
+      (ap (λ (v : InputsValue). v.after) same)
+      (subst (λ (r : Bool).
+      AreSameSearches (searches_from speed restart search before (epochs_of chosen i) blocks)
+      (searches_from speed r search before (epochs_of chosen j) blocks))
       (ap (λ (v : SettingsValue). v.restart) settings_same)
-      (tube_same speed restart search None (epochs_of chosen i) (epochs_of chosen j) blocks
-      (epochs_same chosen))
+      (tube_same speed restart search before (epochs_of chosen i) (epochs_of chosen j) blocks
+      (epochs_same chosen)))
 
   pub root_there : (root : GridBox) → IsRootOf j root → IsRootOf i root
   root_there root is = subst

@@ -318,7 +318,7 @@ track_of chosen i search speed last limit (Ok done) bytes said is_tube distinct 
           (files_delays i) (whole_admits m sound renews directions rules here last refl limit bytes track.report w owns are);
       cover = whole_covers m sound renews directions rules here last refl limit bytes track.report w;
       nothing_clear = whole_clear m sound renews directions rules here refl distinct limit bytes track.report last w;
-      found = λ k path begins goes fits. found_by m (tube_of chosen i search speed) rules w.log (kept_boxes w.log) k path refl
+      found = λ k left path begins goes fits. found_by m (tube_of chosen i search speed) rules w.log (kept_boxes w.log) k left path
           (whole_accepted m sound renews directions rules here last refl limit bytes track.report w) begins goes fits;
     }
 track_of chosen i search speed last limit (Err fault) bytes said is_tube distinct begun = record {

@@ -16,6 +16,7 @@ pub record AreApart (names : words.Files) : Type 0 where
   pub nav : names.nav ≢ names.log
   pub settings : names.settings ≢ names.log
   pub station : IfSome names.station (λ station. station ≢ names.log)
+  pub after : IfSome names.after (λ after. after ≢ names.log)
 
 -- the first did its job to the end where the files were told, and the second found the files as
 -- they were left, and ended so

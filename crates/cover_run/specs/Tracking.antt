@@ -21,7 +21,8 @@ use Rattle.log_writer.specs.Sources.{Source, version_from, Came, IsInHand}
 use Rattle.log_writer.specs.Texts.{IsWhole}
 use Rattle.log_writer.specs.Writing.{Trust}
 use Rattle.log_writer.specs.declared.fault.WriteFault.{WriteFault}
-use Rattle.moving_tube.specs.Tracks.{Stay}
+use Rattle.moving_tube.specs.Endings.{before_value}
+use Rattle.moving_tube.specs.Tracks.{Left, Stay}
 use Rattle.paving_log.specs.CoverBoxes.{cover_of}
 use Rattle.paving_log_check.specs.Admissible.{Admits}
 use Rattle.paving_log_check.specs.FileCover.{FileCover}
@@ -101,14 +102,15 @@ pub record IsTubeOf (i : Inputs) (root : GridBox) (fastest : ℕ) : Type 0 where
   pub search : IsRootOf i root
   pub speed : speed_of i.settings ≡ Some fastest
 
--- the chosen epochs, the first in the search box; it begins anew where the settings say so
+-- the chosen epochs, the first in the search box, or behind what an earlier log leaves; it begins
+-- anew where the settings say so
 abbrev pub tube_of : Selection → Inputs → GridBox → ℕ → TubeValue
 tube_of chosen i search speed = record {
   epochs = epochs_of chosen i;
   search = search;
   speed = speed;
   restart = i.settings.restart;
-  before = None;
+  before = before_value i.after;
 }
 
 -- before the first of them; each later one is searched in the root that the one before leaves
@@ -119,10 +121,12 @@ moving chosen i search speed =
 module _ (chosen : Selection) (i : Inputs) where
   -- By these searches of a log each trajectory of the declared speed over the first epochs of a
   -- piece of the track, however many, that fits in each paved one of them is found in each of them.
+  -- That of the first piece comes from what an earlier log leaves, where it leaves anything.
   abbrev pub FindsReceiver : GridBox → ℕ → LogValue → List Search → Type 0
   FindsReceiver search speed log searches =
-      (k : ℕ) (path : List Stay) → BeginsPiece log.blocks k
-      → IsPath speed search (drop k (epochs_of chosen i)) path
+      (k : ℕ) (left : Option Left) (path : List Stay)
+      → BeginsPiece (before_value i.after) left log.blocks k
+      → IsPath speed search left (drop k (epochs_of chosen i)) path
       → PathFits (meaning_of i) i.settings.rules.outliers (drop k searches) (drop k log.blocks) path
       → IsFoundIn (drop k searches) (drop k log.blocks) path
 

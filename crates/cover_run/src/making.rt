@@ -89,6 +89,7 @@ fn made_inputs(alloc: Global, seed: u32, epochs: u32) -> Result<Inputs, Notice>
         nav,
         station: None,
         obs,
+        after: None,
     })
 }
 

@@ -51,7 +51,8 @@ fn declared_speed(inputs: &Inputs) -> u32
     }
 }
 
-/// The walk of a receiver of this speed over these epochs of the files.
+/// The walk of a receiver of this speed over these epochs of the files, which begins at what an
+/// earlier log leaves, where one is named.
 pub fn declared_tube(inputs: &Inputs, chosen: Selection) -> Tube<'_>
     requires enough { AreEnough inputs.now }
     requires moving { HasSpeed (speed_of inputs.now.settings) }
@@ -68,7 +69,7 @@ pub fn declared_tube(inputs: &Inputs, chosen: Selection) -> Tube<'_>
         },
         speed: declared_speed(inputs),
         restart: settings.restart,
-        before: None,
+        before: inputs.after,
     }
 }
 

@@ -1,13 +1,18 @@
 -- What the files of a receiver give may be broken off as what any reading reads.
-use Rattle.std.proofs.Common.{ℕ, Bool, List, Option, None, Some}
+use Rattle.std.proofs.Common.{◌≡◌, ℕ, Bool, List, Option, None, Some, sym, ◌∙◌}
 use Rattle.std.specs.Prelude.{is_some}
 use Rattle.command_words.specs.Commands.{Files}
+use Rattle.error_bounds.specs.Reading.{IsRoot}
 use Rattle.error_bounds.specs.Texts as settings
 use Rattle.error_bounds.specs.Texts.{SettingsValue}
 use Rattle.rinex_nav.specs.Records.{Broadcast}
 use Rattle.rinex_obs.specs.declared.sought.Sought.{Sought}
 use Rattle.input_files.proofs.ReadingLemmas.{IsFair, named_fair, return_fair, then_fair}
-use Rattle.input_files.specs.Inputs.{ReadsBehindNav, ReadsFor, ReadsNav, ReadsObs, ReadsStation, StationValue}
+use Rattle.grid_model.specs.Boxes.{GridBox}
+use Rattle.grid_model.specs.declared.boxes.Pos.{Pos}
+use Rattle.input_files.specs.Earlier.{earlier_text}
+use Rattle.input_files.specs.Inputs.{InputsValue, ReadsAfter, ReadsBehind, ReadsBehindNav, ReadsFor, ReadsNav, ReadsObs, ReadsReceiver, ReadsStation, StationValue}
+use Rattle.input_files.specs.Inputs.{search_box, search_of}
 use Rattle.input_files.specs.Inputs.{message_of, nav_text, obs_text, sought_of}
 use Rattle.input_files.specs.Inputs.{settings_text, station_text, wants_position}
 use Rattle.input_files.specs.Reading.{Named, Returns}
@@ -28,9 +33,9 @@ module _ (limits : Limits) (names : Files) where
   obs_fair s records station =
       let text = obs_text (sought_of s) (wants_position s.centre) names.epochs in
       then_fair (Named limits text names.obs)
-      (λ o. Returns (record { settings = s; nav = records; station = station; obs = o }))
+      (λ o. Returns (record { settings = s; nav = records; station = station; obs = o; after = None }))
       (named_fair limits text names.obs)
-      (λ o. return_fair (record { settings = s; nav = records; station = station; obs = o }))
+      (λ o. return_fair (record { settings = s; nav = records; station = station; obs = o; after = None }))
 
   pub behind_nav_fair : (s : SettingsValue) (records : List Broadcast)
       → IsFair (ReadsBehindNav limits names s records)
@@ -42,8 +47,33 @@ module _ (limits : Limits) (names : Files) where
   nav_fair s = then_fair (Named limits (nav_text (message_of s)) names.nav) (ReadsBehindNav limits names s)
       (named_fair limits (nav_text (message_of s)) names.nav) (behind_nav_fair s)
 
-  pub inputs_fair : (moving : Bool) → IsFair (ReadsFor moving limits names)
-  inputs_fair moving =
+  pub receiver_fair : (moving : Bool) → IsFair (ReadsReceiver moving limits names)
+  receiver_fair moving =
       let text = settings_text moving (is_some names.station) in
       then_fair (Named limits text names.settings) (ReadsNav limits names)
       (named_fair limits text names.settings) nav_fair
+
+  pub after_fair : (search : GridBox) (name : Option (List ℕ)) → IsFair (ReadsAfter limits search name)
+  after_fair search None = return_fair None
+  after_fair search (Some name) = named_fair limits (earlier_text search) name
+
+  pub behind_fair : (i : InputsValue) → IsFair (ReadsBehind limits names i)
+  behind_fair i =
+      then_fair (ReadsAfter limits (search_of i) names.after) (λ left. Returns (record i { after = left }))
+      (after_fair (search_of i) names.after) (λ left. return_fair (record i { after = left }))
+
+  pub inputs_fair : (moving : Bool) → IsFair (ReadsFor moving limits names)
+  inputs_fair moving =
+      then_fair (ReadsReceiver moving limits names) (ReadsBehind limits names) (receiver_fair moving) behind_fair
+
+-- ---- the search box
+
+-- it is one, and that of the files
+pub box_is : (centre : Option Pos) (half : Pos) (box : GridBox) → IsRoot centre half box
+    → box ≡ search_box centre half
+box_is None half box is = absurd is
+box_is (Some p) half box is = is
+
+pub box_one : (centre : Option Pos) (half : Pos) (box other : GridBox) → IsRoot centre half box
+    → IsRoot centre half other → box ≡ other
+box_one centre half box other is also = box_is centre half box is ∙ sym (box_is centre half other also)

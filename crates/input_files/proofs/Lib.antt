@@ -7,3 +7,4 @@ pub mod SuitLemmas
 pub mod StationLemmas
 pub mod InputLemmas
 pub mod OneZones
+pub mod EarlierLemmas

@@ -1,10 +1,11 @@
 -- What is read from the files of a receiver, in one order: the settings, the navigation file, the
--- observation file of a station where it is named, and that of the receiver.
+-- observation file of a station where it is named, that of the receiver, and an earlier log where it
+-- is named.
 use Rattle.std.specs.Prelude.{◌≡◌, ℕ, ◌+◌, ◌≤◌, Bool, true, false, List, [], ◌∷◌, ◌++◌, Option}
 use Rattle.std.specs.Prelude.{None, Some, is_some, option_map}
 use Rattle.command_words.specs.Commands.{Epochs, Files}
 use Rattle.error_bounds.specs.Reading.{value_of_settings, signal_of, IsKnown, IsEnough, Tells}
-use Rattle.error_bounds.specs.Reading.{centre_with}
+use Rattle.error_bounds.specs.Reading.{box_around, centre_with, IsRoot}
 use Rattle.error_bounds.specs.Texts as settings
 use Rattle.error_bounds.specs.declared.settings.Centre.{Centre}
 use Rattle.error_bounds.specs.declared.settings.Centre.TheVariants.{Header, At}
@@ -12,7 +13,10 @@ use Rattle.error_bounds.specs.declared.settings.Settings.{Settings}
 use Rattle.outer_io.specs.declared.slots.Slot.TheVariants as slot
 use Rattle.gnss_model.specs.declared.systems.Message.{Message}
 use Rattle.error_bounds.specs.Sizes.{IsNearGround}
+use Rattle.grid_model.specs.Boxes.{GridBox}
 use Rattle.grid_model.specs.declared.boxes.Pos.{Pos}
+use Rattle.moving_tube.specs.Endings.{IsInsideOf, before_value}
+use Rattle.moving_tube.specs.Roots.{Before}
 use Rattle.rinex_nav.specs.Files as nav
 use Rattle.rinex_nav.specs.Reading.{records_of}
 use Rattle.rinex_nav.specs.Records.{Broadcast}
@@ -23,6 +27,7 @@ use Rattle.rinex_obs.specs.Epochs.{Observed}
 use Rattle.rinex_obs.specs.Reading.{observations_of, plain_epochs}
 use Rattle.rinex_obs.specs.declared.obs.Obs.{Obs}
 use Rattle.rinex_obs.specs.declared.sought.Sought.{Sought}
+use Rattle.input_files.specs.Earlier.{earlier_text}
 use Rattle.input_files.specs.Reading.{Text, Reading, Named, NamedSlots, Then, Returns}
 use Rattle.input_files.specs.Suits.{Suits, IsSettingsFor, NamesFaultFor, far_place}
 use Rattle.input_files.specs.declared.input_fault.InputFault.TheVariants as fault
@@ -166,6 +171,8 @@ pub record InputsValue : Type 0 where
   pub nav : List Broadcast
   pub station : Option StationValue
   pub obs : obs.Observations
+  -- what an earlier log leaves
+  pub after : Option Before
 
 abbrev pub inputs_value : Inputs → InputsValue
 inputs_value i = record {
@@ -173,6 +180,7 @@ inputs_value i = record {
   nav = records_of i.nav;
   station = option_map station_value i.station;
   obs = observations_of i.obs;
+  after = before_value i.after;
 }
 
 -- the files that are read, in their order
@@ -180,16 +188,30 @@ abbrev pub station_slot : Option (List ℕ) → NamedSlots
 station_slot None = []
 station_slot (Some name) = (slot.Station, name) ∷ []
 
-abbrev pub input_files : Files → NamedSlots
-input_files names =
+abbrev pub receiver_files : Files → NamedSlots
+receiver_files names =
     (slot.Settings, names.settings) ∷ (slot.Nav, names.nav)
     ∷ (station_slot names.station ++ (slot.Obs, names.obs) ∷ [])
+
+-- and an earlier log behind them, in the slot of the log
+abbrev pub after_slot : Option (List ℕ) → NamedSlots
+after_slot None = []
+after_slot (Some name) = (slot.Log, name) ∷ []
+
+abbrev pub input_files : Files → NamedSlots
+input_files names = receiver_files names ++ after_slot names.after
 
 abbrev pub ReadsObs : Limits → Files → settings.SettingsValue → List Broadcast
     → Option StationValue → Reading InputsValue
 ReadsObs limits names s records station =
     Then (Named limits (obs_text (sought_of s) (wants_position s.centre) names.epochs) names.obs)
-    (λ o. Returns (record { settings = s; nav = records; station = station; obs = o }))
+    (λ o. Returns (record {
+      settings = s;
+      nav = records;
+      station = station;
+      obs = o;
+      after = None;
+    }))
 
 -- the station's file, where it is named and the station declared
 abbrev pub ReadsStation : Limits → Sought → Option (List ℕ) → Option settings.StationValue
@@ -209,10 +231,30 @@ abbrev pub ReadsNav : Limits → Files → settings.SettingsValue → Reading In
 ReadsNav limits names s =
     Then (Named limits (nav_text (message_of s)) names.nav) (ReadsBehindNav limits names s)
 
-abbrev pub ReadsFor : Bool → Limits → Files → Reading InputsValue
-ReadsFor moving limits names =
+abbrev pub ReadsReceiver : Bool → Limits → Files → Reading InputsValue
+ReadsReceiver moving limits names =
     Then (Named limits (settings_text moving (is_some names.station)) names.settings)
     (ReadsNav limits names)
+
+-- what an earlier log leaves in this search box, where it is named
+abbrev pub ReadsAfter : Limits → GridBox → Option (List ℕ) → Reading (Option Before)
+ReadsAfter limits search None = Returns None
+ReadsAfter limits search (Some name) = Named limits (earlier_text search) name
+
+-- the box around a centre, which is always known where a receiver's files are accepted
+abbrev pub search_box : Option Pos → Pos → GridBox
+search_box None half = box_around half half
+search_box (Some p) half = box_around p half
+
+abbrev pub search_of : InputsValue → GridBox
+search_of i = search_box (centre_with i.obs.position i.settings.centre) i.settings.half
+
+abbrev pub ReadsBehind : Limits → Files → InputsValue → Reading InputsValue
+ReadsBehind limits names i = Then (ReadsAfter limits (search_of i) names.after)
+    (λ left. Returns (record i { after = left }))
+
+abbrev pub ReadsFor : Bool → Limits → Files → Reading InputsValue
+ReadsFor moving limits names = Then (ReadsReceiver moving limits names) (ReadsBehind limits names)
 
 abbrev pub ReadsInputs : Limits → Files → Reading InputsValue
 ReadsInputs limits names = ReadsFor false limits names
@@ -226,8 +268,12 @@ abbrev pub AreShort : (max_age : ℕ) → Option StationFile → Type 0
 AreShort max_age None = Unit {0}
 AreShort max_age (Some station) = max_age + station.age ≤ 14400
 
--- the position of the header is known where it is the centre
+-- the position of the header is known where it is the centre, and what an earlier log leaves lies in
+-- the search box
 pub record AreEnough (i : Inputs) : Type 0 where
   pub centre : IsEnough i.settings.centre i.obs.position
   pub usual : AreUsual i.obs
   pub ages : AreShort i.settings.max_age i.station
+  pub inside : (root : GridBox)
+      → IsRoot (centre_with i.obs.position i.settings.centre) i.settings.half root
+      → IsInsideOf root (before_value i.after)

@@ -7,6 +7,7 @@ pub mod Motion
 pub mod Suits
 pub mod Unread
 pub mod Logs
+pub mod Earlier
 pub mod Inputs
 pub mod Placed
 pub mod Zones

@@ -15,6 +15,7 @@ role_text role.Station = codes "station"
 role_text role.Rows = codes "rows"
 role_text role.Zones = codes "zones"
 role_text role.Log = codes "log"
+role_text role.After = codes "after"
 
 abbrev pub notice_text : Notice → List ℕ
 notice_text notice.Usage = codes "usage: gpscover judge LOG, pave ROWS LOG, "
@@ -27,6 +28,9 @@ notice_text (notice.BadLog role line kind) = role_text role ++ codes " 40 BadLog
     ++ decimal line ++ codes " kind " ++ decimal kind ++ codes "\n"
 notice_text (notice.BadZones line) =
     codes "zones 42 BadZones line " ++ decimal line ++ codes "\n"
+notice_text (notice.BadAfter line) =
+    codes "after 44 BadAfter line " ++ decimal line ++ codes "\n"
+notice_text notice.AfterOutside = codes "after 45 OutsideBox\n"
 notice_text (notice.BadInput fault) = input_fault_text fault
 notice_text (notice.ReadFault role) = role_text role ++ codes " fault\n"
 notice_text notice.LogFault = codes "log fault\n"

@@ -116,6 +116,7 @@ limit_of limits role.Station = limits.file
 limit_of limits role.Rows = limits.file
 limit_of limits role.Zones = limits.settings
 limit_of limits role.Log = limits.log
+limit_of limits role.After = limits.log
 
 -- the named file, where the files are told
 abbrev pub file_in : Option Files → List ℕ → Option (Option (List ℕ))

@@ -2,6 +2,7 @@
 //! line what is wrong with the first that isn't accepted.
 #![tactic(auto)]
 
+mod earlier;
 mod grammar;
 mod input_fault;
 mod input_grammars;
@@ -20,6 +21,7 @@ mod status;
 mod suits;
 mod zones_grammar;
 
+pub use earlier::EarlierText;
 pub use grammar::Grammar;
 pub use input_fault::InputFault;
 pub use input_grammars::{NavText, ObsText, SettingsText, StationText};

@@ -6,7 +6,8 @@ ghost use Rattle.outer_io.specs.Sizes.{longest_file};
 use crate::role::Role;
 
 /// The most bytes that a file may have: an observation file, of the receiver or of a station, a
-/// navigation or rows file, the settings or zones, and a log, which is read or written. No file may have more than 4 * 10^9.
+/// navigation or rows file, the settings or zones, and a log, which is read or written. No file may
+/// have more than 4 * 10^9.
 #[derive(Clone, Copy, Debug, PartialEq, Eq)]
 pub struct Limits {
     pub file: u64,
@@ -28,7 +29,7 @@ impl Limits {
         match role {
             Role::Settings | Role::Zones => self.settings,
             Role::Nav | Role::Obs | Role::Station | Role::Rows => self.file,
-            Role::Log => self.log,
+            Role::Log | Role::After => self.log,
         }
     }
 }

@@ -25,6 +25,10 @@ pub enum Notice {
     BadLog { role: Role, line: u32, kind: u8 },
     /// The zones have their first line that doesn't fit here.
     BadZones { line: u32 },
+    /// The earlier log isn't right: its first line that fails a test is this.
+    BadAfter { line: u32 },
+    /// What the earlier log leaves doesn't lie in the search box.
+    AfterOutside,
     /// A receiver's file has this first fault.
     BadInput(InputFault),
     /// The file is missing, or a read of it has failed.
@@ -48,6 +52,8 @@ impl Notice {
             Notice::TooLong { .. } => Status::Refused,
             Notice::BadLog { .. } => Status::Refused,
             Notice::BadZones { .. } => Status::Refused,
+            Notice::BadAfter { .. } => Status::Refused,
+            Notice::AfterOutside => Status::Refused,
             Notice::BadInput(_) => Status::Refused,
             Notice::ReadFault { .. } => Status::ReadFault,
             Notice::LogFault => Status::WriteFault,

@@ -25,6 +25,7 @@ fn role_of(role: Role) -> &'static str
         Role::Rows => "rows",
         Role::Zones => "zones",
         Role::Log => "log",
+        Role::After => "after",
     }
 }
 
@@ -70,6 +71,11 @@ pub fn notice_line(notice: &Notice) -> Line
             push_count(&mut line, "zones 42 BadZones line ", u64::from(number));
             line.push_str("\n");
         }
+        Notice::BadAfter { line: number } => {
+            push_count(&mut line, "after 44 BadAfter line ", u64::from(number));
+            line.push_str("\n");
+        }
+        Notice::AfterOutside => line.push_str("after 45 OutsideBox\n"),
         Notice::BadInput(ref fault) => push_input_fault(&mut line, fault),
         Notice::ReadFault { role } => {
             line.push_str(role_of(role));

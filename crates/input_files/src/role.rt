@@ -16,6 +16,8 @@ pub enum Role {
     /// Zones, which are never read beside rows and go through their slot.
     Zones,
     Log,
+    /// An earlier log, which is read before the log and goes through its slot.
+    After,
 }
 
 impl Role {
@@ -29,7 +31,7 @@ impl Role {
             Role::Obs => Slot::Obs,
             Role::Station => Slot::Station,
             Role::Rows | Role::Zones => Slot::Rows,
-            Role::Log => Slot::Log,
+            Role::Log | Role::After => Slot::Log,
         }
     }
 }

@@ -45,18 +45,6 @@ new_fits maker used hull n (Some x) fit (active, is, shorter, same, gives) new s
 abbrev pub done_piece : Counts4 → Piece
 done_piece counts = with_report (line.Done counts.bisections) (total_text_of counts)
 
--- no bounds are asked for
-pub closing_plain : {T : Type 0} (wanted : Wanted) (maker : Maker) (first : RowsOver) (events : List Event) (counts : Counts4) (a c : Seen) (r : Result T WriteFault)
-    → wanted.directions ≡ None → Written a (done_piece counts ∷ []) r c
-    → WroteClosing wanted maker first events counts a r c
-closing_plain wanted maker first events counts a c r none written = record {
-  last = None;
-  renews = rw none refl;
-  bounds = [];
-  bounded = rw none refl;
-  written = written;
-}
-
 module _ (wanted : Wanted) (d : Directions) (asks : wanted.directions ≡ Some d) (list : List Direction) (are : IsDirectionsOf d list) (few : length list ≤ 64) (maker : Maker) (first : RowsOver) (events : List Event) (done : Outcome) (behind : IsBehind first events done) (last : Option RowsOver) (renews : RenewsOver maker (used_last first (rows_option done.renewed)).part (box_option done.kept) (length first.rows) last) where
   its_renewal : RenewsLast wanted.directions maker first events last
   its_renewal =

@@ -10,17 +10,12 @@ use Rattle.sat_model.specs.Fold.{ShownStep}
 use Rattle.grid_model.specs.declared.boxes.Pos.{Pos}
 use Rattle.paving_log.specs.CoverBoxes.{kept_parts}
 use Rattle.grid_model.specs.Hulls.{joined_side, joined_box}
-use Rattle.moving_tube.specs.Hulls.{hull_with, hull_behind, HullLies}
+use Rattle.moving_tube.specs.Hulls.{hull_with, hull_behind, HullHolds, HullLies}
 use Rattle.moving_tube.proofs.HoldLemmas.{holds_first, holds_second}
 use Rattle.sat_model.proofs.KeptLemmas.{kept_step}
 use Rattle.paving_log.proofs.KeptParts.{kept_here, kept_later}
 
 -- ---- what it holds
-
--- there is a hull, and it holds the point
-abbrev pub HullHolds : Option GridBox → Pos → Type 0
-HullHolds None p = ⊥
-HullHolds (Some hull) p = box_holds hull p ≡ true
 
 held_with : (hull : Option GridBox) (part : GridBox) (p : Pos) → HullHolds hull p
     → HullHolds (hull_with hull part) p

@@ -9,16 +9,10 @@ use Rattle.sat_model.specs.Logs.{Body}
 use Rattle.grid_model.specs.declared.boxes.Pos.{Pos}
 use Rattle.moving_tube.specs.Reach.{reach_of}
 use Rattle.moving_tube.specs.Roots.{kept_of, kept_with, Before, handed_on, root_after, root_for, reached_box}
-use Rattle.moving_tube.specs.Tracks.{Stay, Left, IsReached, GoesOn, IsTrajectory, Visit, behind, AreRooted, HasRoot, IsKeptWith, AreKept, IsFoundWith, AreFound}
+use Rattle.moving_tube.specs.Tracks.{Stay, Left, IsReached, ComesFrom, GoesOn, Visit, behind, AreRooted, HasRoot, IsKeptWith, AreKept, IsFoundWith, AreFound}
 use Rattle.moving_tube.proofs.HoldLemmas.{holds_reached}
-use Rattle.moving_tube.proofs.HullLemmas.{HullHolds, kept_held}
-
--- the receiver was in what the epoch before kept
-abbrev IsHeld : Option Before → Option Left → Type 0
-IsHeld None None = Unit {0}
-IsHeld None (Some left) = ⊥
-IsHeld (Some before) None = ⊥
-IsHeld (Some before) (Some left) = (before.tag ≡ left.tag) × HullHolds before.kept left.at
+use Rattle.moving_tube.specs.Hulls.{HullHolds}
+use Rattle.moving_tube.proofs.HullLemmas.{kept_held}
 
 -- so it is in the root
 in_root_after : (speed : ℕ) (search : GridBox) (from to : ℤ) (kept : Option GridBox) (root : GridBox) (p q : Pos)
@@ -32,13 +26,12 @@ in_root_after speed search from to (Some kept) root p q held inside near e =
     subst (λ (r : GridBox). box_holds r q ≡ true) same (holds_reached (reach_of speed from to) kept search p q held near inside)
 
 in_root : (speed : ℕ) (search : GridBox) (before : Option Before) (left : Option Left) (tag : ℤ) (root : GridBox) (q : Pos)
-    → IsHeld before left
+    → ComesFrom before left
     → box_holds search q ≡ true → IsReached speed left tag q
     → root_for speed search before tag ≡ Some root → box_holds root q ≡ true
-in_root speed search None None tag root q held inside near e =
+in_root speed search None left tag root q held inside near e =
     let same : search ≡ root = cc in
     subst (λ (r : GridBox). box_holds r q ≡ true) same inside
-in_root speed search None (Some left) tag root q held inside near e = absurd held
 in_root speed search (Some before) None tag root q held inside near e = absurd held
 in_root speed search (Some before) (Some left) tag root q held inside near e =
     in_root_after speed search before.tag tag before.kept root left.at q held.1 inside
@@ -57,7 +50,7 @@ held_with root (Some body) stay is found = rw is (kept_held None (pieces root (s
 
 -- what an epoch hands on held it
 handed_held : (restart : Bool) (tag : ℤ) (kept : Option GridBox) (p : Pos) → HullHolds kept p
-    → IsHeld (handed_on restart tag kept) (Some (record { tag = tag; at = p }))
+    → ComesFrom (handed_on restart tag kept) (Some (record { tag = tag; at = p }))
 handed_held restart tag None p held = absurd held
 handed_held restart tag (Some kept) p held = (refl, held)
 
@@ -72,25 +65,20 @@ module _ (speed : ℕ) (restart : Bool) (search : GridBox) where
   AreTimed (v ∷ more) [] = ⊥
   AreTimed (v ∷ more) (tag ∷ tags) = (v.tag ≡ tag) × AreTimed more tags
 
-  found_from : (before : Option Before) (left : Option Left) (visits : List Visit) (tags : List ℤ) (path : List Stay)
-      → IsHeld before left
+  -- A trajectory that comes from what was handed on, and that each paved one of its epochs keeps, where it is in its root, is
+  -- found in each of them.
+  pub track_found : (before : Option Before) (left : Option Left) (visits : List Visit) (tags : List ℤ) (path : List Stay)
+      → ComesFrom before left
       → AreRooted speed restart search before visits → AreTimed visits tags → HaveRoots visits
       → GoesOn speed search left tags path → AreKept visits path
       → AreFound visits path
-  found_from before left [] tags path held rooted timed roots goes kept = tt
-  found_from before left (v ∷ more) [] path held rooted timed roots goes kept = absurd timed
-  found_from before left (v ∷ more) (tag ∷ tags) [] held rooted timed roots goes kept = tt
-  found_from before left (v ∷ more) (tag ∷ tags) (stay ∷ path) held rooted timed roots goes kept =
+  track_found before left [] tags path held rooted timed roots goes kept = tt
+  track_found before left (v ∷ more) [] path held rooted timed roots goes kept = absurd timed
+  track_found before left (v ∷ more) (tag ∷ tags) [] held rooted timed roots goes kept = tt
+  track_found before left (v ∷ more) (tag ∷ tags) (stay ∷ path) held rooted timed roots goes kept =
       let inside = in_root speed search before left v.tag v.root stay.at held goes.0 (subst (λ (t : ℤ). IsReached speed left t stay.at) (sym timed.0) goes.1) rooted.0 in
       let found = found_with v.root v.block.body stay inside kept.0 in
       let held = held_with v.root v.block.body stay roots.0 found in
-      let handed = subst (λ (t : ℤ). IsHeld (behind restart v) (Some (record { tag = t; at = stay.at }))) timed.0
+      let handed = subst (λ (t : ℤ). ComesFrom (behind restart v) (Some (record { tag = t; at = stay.at }))) timed.0
       (handed_held restart v.tag (kept_of v.root v.block) stay.at held) in
-      (found, found_from (behind restart v) (Some (record { tag = tag; at = stay.at })) more tags path handed rooted.1 timed.1 roots.1 goes.2 kept.1)
-
-  -- A trajectory that each paved one of its epochs keeps, where it is in its root, is found in each of them.
-  pub track_found : (visits : List Visit) (tags : List ℤ) (path : List Stay)
-      → AreRooted speed restart search None visits → AreTimed visits tags
-      → HaveRoots visits → IsTrajectory speed search tags path → AreKept visits path
-      → AreFound visits path
-  track_found visits tags path rooted timed roots goes kept = found_from None None visits tags path tt rooted timed roots goes kept
+      (found, track_found (behind restart v) (Some (record { tag = tag; at = stay.at })) more tags path handed rooted.1 timed.1 roots.1 goes.2 kept.1)

@@ -1,6 +1,7 @@
 -- The hull of boxes: the least box that holds them all.
-use Rattle.std.specs.Prelude.{List, [], ◌∷◌, Option, None, Some}
-use Rattle.grid_model.specs.Boxes.{GridBox}
+use Rattle.std.specs.Prelude.{◌≡◌, true, List, [], ◌∷◌, Option, None, Some}
+use Rattle.grid_model.specs.Boxes.{GridBox, box_holds}
+use Rattle.grid_model.specs.declared.boxes.Pos.{Pos}
 use Rattle.grid_model.specs.Hulls.{joined_box}
 use Rattle.sat_model.specs.Contractors.{LiesIn}
 
@@ -21,3 +22,8 @@ hull_of parts = hull_behind None parts
 abbrev pub HullLies : Option GridBox → GridBox → Type 0
 HullLies None box = Unit {0}
 HullLies (Some hull) box = LiesIn hull box
+
+-- there is one, and it holds the point
+abbrev pub HullHolds : Option GridBox → Pos → Type 0
+HullHolds None p = ⊥
+HullHolds (Some hull) p = box_holds hull p ≡ true

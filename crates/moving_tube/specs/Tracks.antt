@@ -6,6 +6,7 @@ use Rattle.sat_model.specs.Events.{steps_in}
 use Rattle.sat_model.specs.Fold.{pieces}
 use Rattle.sat_model.specs.Logs.{Body, Block}
 use Rattle.grid_model.specs.declared.boxes.Pos.{Pos}
+use Rattle.moving_tube.specs.Hulls.{HullHolds}
 use Rattle.moving_tube.specs.Reach.{reach_of, IsWithinReach}
 use Rattle.moving_tube.specs.Roots.{Before, handed_on, kept_of, root_for}
 
@@ -25,6 +26,13 @@ abbrev pub IsReached : ℕ → Option Left → ℤ → Pos → Type 0
 IsReached speed None tag p = Unit {0}
 IsReached speed (Some left) tag p = IsWithinReach (reach_of speed left.tag tag) left.at p
 
+-- the receiver was in what an epoch before kept, at its time; it comes from anywhere where nothing
+-- was handed on
+abbrev pub ComesFrom : Option Before → Option Left → Type 0
+ComesFrom None left = Unit {0}
+ComesFrom (Some before) None = ⊥
+ComesFrom (Some before) (Some left) = (before.tag ≡ left.tag) × HullHolds before.kept left.at
+
 -- From there on one stay in the search box for each of the first of these times, as many as there
 -- are stays, each within reach of the one before.
 abbrev pub GoesOn : ℕ → GridBox → Option Left → List ℤ → List Stay → Type 0
@@ -34,9 +42,6 @@ GoesOn speed search left (tag ∷ tags) [] = Unit {0}
 GoesOn speed search left (tag ∷ tags) (stay ∷ path) =
     (box_holds search stay.at ≡ true) × IsReached speed left tag stay.at
     × GoesOn speed search (Some (record { tag = tag; at = stay.at })) tags path
-
-abbrev pub IsTrajectory : ℕ → GridBox → List ℤ → List Stay → Type 0
-IsTrajectory speed search tags path = GoesOn speed search None tags path
 
 -- ---- the epochs of a track
 

@@ -8,7 +8,10 @@ use Rattle.std.proofs.lemmas.List.{length-take}
 use Rattle.command_words.specs.Commands as words
 use Rattle.command_words.specs.Commands.{Command, Judge, Pave, Solve, Check, Track, Retrack, Guard, Make}
 use Rattle.epoch_selection.specs.declared.selection.Selection.{Selection}
-use Rattle.input_files.specs.Inputs.{InputsValue, ReadsBehindNav, ReadsFor, ReadsNav, ReadsObs, ReadsStation, settings_text, nav_text, obs_text, station_text, message_of, sought_of, wants_position}
+use Rattle.grid_model.specs.Boxes.{GridBox}
+use Rattle.moving_tube.specs.Roots.{Before}
+use Rattle.input_files.specs.Earlier.{earlier_text}
+use Rattle.input_files.specs.Inputs.{InputsValue, ReadsAfter, ReadsBehind, ReadsReceiver, search_of, ReadsBehindNav, ReadsFor, ReadsNav, ReadsObs, ReadsStation, settings_text, nav_text, obs_text, station_text, message_of, sought_of, wants_position}
 use Rattle.input_files.specs.Zones.{zones_text}
 use Rattle.input_files.specs.Logs.{log_text, rows_text}
 use Rattle.input_files.specs.Reading as reading
@@ -352,9 +355,9 @@ module _ (limits : Limits) (told : Told) (before after : World) (trust : Trust) 
       (named_sound before.shelf after.shelf trust.log sure limits told.files text name there)
       (λ station. returns_sound before.shelf after.shelf trust.log sure limits told.files (Some station))
 
-  inputs_sound : (moving : Bool) (names : words.Files) → AreInputsThere told.files names
-      → Sound (ReadsFor moving limits names)
-  inputs_sound moving names there = λ sure.
+  receiver_sound : (moving : Bool) (names : words.Files) → AreInputsThere told.files names
+      → Sound (ReadsReceiver moving limits names)
+  receiver_sound moving names there = λ sure.
       let settings = settings_text moving (is_some names.station) in
       then_sound before.shelf after.shelf trust.log sure limits told.files (Named limits settings names.settings) (ReadsNav limits names)
       (named_sound before.shelf after.shelf trust.log sure limits told.files settings names.settings there.0) (λ s.
@@ -363,10 +366,25 @@ module _ (limits : Limits) (told : Told) (before after : World) (trust : Trust) 
       then_sound before.shelf after.shelf trust.log sure limits told.files (ReadsStation limits (sought_of s) names.station s.station) (ReadsObs limits names s records)
       (station_sound (sought_of s) names.station s.station there.3 sure) (λ station.
       let text = obs_text (sought_of s) (wants_position s.centre) names.epochs in
-      let value : Observations → InputsValue = λ o. record { settings = s; nav = records; station = station; obs = o } in
+      let value : Observations → InputsValue = λ o. record { settings = s; nav = records; station = station; obs = o; after = None } in
       then_sound before.shelf after.shelf trust.log sure limits told.files (Named limits text names.obs) (λ o. Returns (value o))
       (named_sound before.shelf after.shelf trust.log sure limits told.files text names.obs there.2)
       (λ o. returns_sound before.shelf after.shelf trust.log sure limits told.files (value o)))))
+
+  after_sound : (search : GridBox) (name : Option (List ℕ)) → IfSome name (IsThere told.files)
+      → Sound (ReadsAfter limits search name)
+  after_sound search None there = λ sure. returns_sound before.shelf after.shelf trust.log sure limits told.files None
+  after_sound search (Some name) there = λ sure.
+      named_sound before.shelf after.shelf trust.log sure limits told.files (earlier_text search) name there
+
+  inputs_sound : (moving : Bool) (names : words.Files) → AreInputsThere told.files names
+      → Sound (ReadsFor moving limits names)
+  inputs_sound moving names there = λ sure.
+      then_sound before.shelf after.shelf trust.log sure limits told.files (ReadsReceiver moving limits names) (ReadsBehind limits names) (receiver_sound moving names there sure) (λ i.
+      let value : Option Before → InputsValue = λ left. record i { after = left } in
+      then_sound before.shelf after.shelf trust.log sure limits told.files (ReadsAfter limits (search_of i) names.after) (λ left. Returns (value left))
+      (after_sound (search_of i) names.after there.4 sure)
+      (λ left. returns_sound before.shelf after.shelf trust.log sure limits told.files (value left)))
 
   check_sound : (moving : Bool) (names : words.Files)
       → AreInputsThere told.files names × IsThere told.files names.log

@@ -13,11 +13,11 @@ use Rattle.command_words.specs.Commands.{Make}
 abbrev pub IsThere : Files → List ℕ → Type 0
 IsThere files name = is_some (map.get files name) ≡ true
 
--- those of a receiver, and that of a station where one is named
+-- those of a receiver, and that of a station and an earlier log where they are named
 abbrev pub AreInputsThere : Files → words.Files → Type 0
 AreInputsThere files names =
     IsThere files names.settings × IsThere files names.nav × IsThere files names.obs
-    × IfSome names.station (IsThere files)
+    × IfSome names.station (IsThere files) × IfSome names.after (IsThere files)
 
 -- the files that are read are there
 abbrev pub AreThere : Files → Command → Type 0

@@ -29,13 +29,6 @@ all_none boxes n none all id = elim (cases_lt id n) [
   | inr more ↦ get_or_past (map box_option boxes) id None (omega (arith, length-map boxes box_option))
 ]
 
--- what is so of each live box below a number is so of all, where no number is left
-pub all_held : (boxes : List (Option Box3)) (Meets : GridBox → Type 0) (n : ℕ)
-    → ((id : ℕ) → id < n → (live : GridBox) → get_or (map box_option boxes) id None ≡ Some live → Meets live)
-    → length boxes ≤ n
-    → (id : ℕ) (live : GridBox) → get_or (map box_option boxes) id None ≡ Some live → Meets live
-all_held boxes Meets n held all id live e = held id (omega (arith, all, id_within boxes id live e)) live e
-
 -- a box is closed
 pub closed_boxes : (boxes : List (Option Box3)) (id : ℕ)
     → boxes_with (set boxes id None) ≡ record { live = set (map box_option boxes) id None; splits = length boxes / 2 }

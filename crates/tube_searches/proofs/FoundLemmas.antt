@@ -3,7 +3,7 @@ use Rattle.std.proofs.Common.{◌≡◌, ◌⊎◌, ℕ, zero, suc, ℤ, Bool, t
 use Rattle.epoch_selection.specs.Searches.{Search}
 use Rattle.moving_tube.specs.Hulls.{hull_of}
 use Rattle.moving_tube.specs.Roots.{Before, handed_on, kept_with, kept_of, root_for}
-use Rattle.moving_tube.specs.Tracks.{Stay, AreRooted, HasRoot, IsKeptWith, AreKept}
+use Rattle.moving_tube.specs.Tracks.{Stay, Left, ComesFrom, AreRooted, HasRoot, IsKeptWith, AreKept}
 use Rattle.moving_tube.proofs.TrackLemmas.{HaveRoots, AreTimed, track_found}
 use Rattle.paving_log_check.specs.Admissible.{AdmitsFrom}
 use Rattle.paving_log_check.specs.Checked.{IsAccepted}
@@ -152,22 +152,35 @@ module _ (speed : ℕ) (restart : Bool) (search : GridBox) where
   after_root k epoch more block blocks None rest = inl refl
   after_root k epoch more block blocks (Some root) rest = rest root
 
-  later_piece : (k : ℕ) (before : Option Before) (epochs : List ObsEpoch) (blocks : List Block)
-      → BeginsPiece blocks (suc k)
+  later_piece : (first : Option Before) (left : Option Left) (k : ℕ) (before : Option Before) (epochs : List ObsEpoch) (blocks : List Block)
+      → BeginsPiece first left blocks (suc k)
       → BeginsAfter (suc k) (From before epochs blocks) epochs blocks
-  later_piece k before [] blocks begins = inl refl
-  later_piece k before (epoch ∷ more) [] begins = absurd begins
-  later_piece zero before (epoch ∷ more) (block ∷ blocks) begins =
+  later_piece first left k before [] blocks begins = inl refl
+  later_piece first left k before (epoch ∷ more) [] begins = absurd begins
+  later_piece first left zero before (epoch ∷ more) (block ∷ blocks) begins =
       after_root zero epoch more block blocks (root_for speed search before epoch.tag)
       (λ root. behind_lost epoch more block blocks root begins)
-  later_piece (suc k) before (epoch ∷ more) (block ∷ blocks) begins =
+  later_piece first left (suc k) before (epoch ∷ more) (block ∷ blocks) begins =
       after_root (suc k) epoch more block blocks (root_for speed search before epoch.tag)
-      (λ root. later_piece k (handed speed restart search epoch block root) more blocks begins)
+      (λ root. later_piece first left k (handed speed restart search epoch block root) more blocks begins)
 
-  pub piece_begins : (k : ℕ) (epochs : List ObsEpoch) (blocks : List Block) → BeginsPiece blocks k
-      → BeginsAfter k (From None epochs blocks) epochs blocks
-  piece_begins zero epochs blocks begins = inr refl
-  piece_begins (suc k) epochs blocks begins = later_piece k None epochs blocks begins
+  -- no search is left of these, or those of a track that begins here, to which a receiver comes from there
+  abbrev BeginsFrom : Option Left → List Search → List ObsEpoch → List Block → Type 0
+  BeginsFrom left searches epochs blocks =
+      (searches ≡ []) ⊎ ((before : Option Before) × ComesFrom before left × (searches ≡ From before epochs blocks))
+
+  from_anywhere : (left : Option Left) (searches : List Search) (epochs : List ObsEpoch) (blocks : List Block)
+      → BeginsAnew searches epochs blocks → BeginsFrom left searches epochs blocks
+  from_anywhere left searches epochs blocks (inl none) = inl none
+  from_anywhere left searches epochs blocks (inr anew) = inr (None, tt, anew)
+
+  pub piece_begins : (k : ℕ) (before : Option Before) (left : Option Left) (epochs : List ObsEpoch) (blocks : List Block)
+      → BeginsPiece before left blocks k
+      → BeginsFrom left (drop k (From before epochs blocks)) (drop k epochs) (drop k blocks)
+  piece_begins zero before left epochs blocks begins = inr (before, begins, refl)
+  piece_begins (suc k) before left epochs blocks begins =
+      from_anywhere left (drop (suc k) (From before epochs blocks)) (drop (suc k) epochs) (drop (suc k) blocks)
+      (later_piece before left k before epochs blocks begins)
 
   -- ---- what is known of all visits is known of those of a piece
 
@@ -194,34 +207,31 @@ cover_after m q (suc k) (s ∷ rest) (block ∷ more) cover = cover_after m q k 
 -- ---- by an accepted log
 
 module _ (m : Meaning) (q speed : ℕ) (restart : Bool) (search : GridBox) where
-  found_in : (searches : List Search) (epochs : List ObsEpoch) (blocks : List Block) (path : List Stay)
-      → BeginsAnew speed restart search searches epochs blocks
+  found_in : (left : Option Left) (searches : List Search) (epochs : List ObsEpoch) (blocks : List Block) (path : List Stay)
+      → BeginsFrom speed restart search left searches epochs blocks
       → HaveRoots speed restart search (visits_of searches blocks)
       → BlocksFitCover m q searches blocks
-      → IsPath speed search epochs path → PathFits m q searches blocks path
+      → IsPath speed search left epochs path → PathFits m q searches blocks path
       → IsFoundIn searches blocks path
-  found_in searches epochs blocks path (inl none) roots cover goes fits =
+  found_in left searches epochs blocks path (inl none) roots cover goes fits =
       subst (λ (l : List Search). IsFoundIn l blocks path) (sym none) tt
-  found_in searches epochs blocks path (inr anew) roots cover goes fits =
-      track_found speed restart search (visits_of searches blocks) _ path
-      (subst (λ (l : List Search). AreRooted speed restart search None (visits_of l blocks)) (sym anew) (rooted speed restart search None epochs blocks))
-      (subst (λ (l : List Search). AreTimed speed restart search (visits_of l blocks) (map (λ e. e.tag) epochs)) (sym anew) (timed speed restart search None epochs blocks))
+  found_in left searches epochs blocks path (inr (before, comes, anew)) roots cover goes fits =
+      track_found speed restart search before left (visits_of searches blocks) _ path comes
+      (subst (λ (l : List Search). AreRooted speed restart search before (visits_of l blocks)) (sym anew) (rooted speed restart search before epochs blocks))
+      (subst (λ (l : List Search). AreTimed speed restart search (visits_of l blocks) (map (λ e. e.tag) epochs)) (sym anew) (timed speed restart search before epochs blocks))
       roots goes (are_kept m q searches blocks path cover fits)
 
-pub found_by : (m : Meaning) (t : TubeValue) (rules : Rules) (log : LogValue) (boxes k : ℕ) (path : List Stay)
-    → t.before ≡ None
+pub found_by : (m : Meaning) (t : TubeValue) (rules : Rules) (log : LogValue) (boxes k : ℕ) (left : Option Left) (path : List Stay)
     → IsAccepted m (tube_searches t log.blocks) rules log boxes
-    → BeginsPiece log.blocks k
-    → IsPath t.speed t.search (drop k t.epochs) path
+    → BeginsPiece t.before left log.blocks k
+    → IsPath t.speed t.search left (drop k t.epochs) path
     → PathFits m rules.outliers (drop k (tube_searches t log.blocks)) (drop k log.blocks) path
     → IsFoundIn (drop k (tube_searches t log.blocks)) (drop k log.blocks) path
-found_by m t rules log boxes k path first accepted begins goes fits =
+found_by m t rules log boxes k left path accepted begins goes fits =
     let blocks = log.blocks in
     let searches = tube_searches t blocks in
-    let anew = subst (λ (b : Option Before).
-    BeginsAfter t.speed t.restart t.search k (searches_from t.speed t.restart t.search b t.epochs blocks) t.epochs blocks)
-    (sym first) (piece_begins t.speed t.restart t.search k t.epochs blocks begins) in
-    found_in m rules.outliers t.speed t.restart t.search (drop k searches) (drop k t.epochs) (drop k blocks) path anew
+    found_in m rules.outliers t.speed t.restart t.search left (drop k searches) (drop k t.epochs) (drop k blocks) path
+    (piece_begins t.speed t.restart t.search k t.before left t.epochs blocks begins)
     (roots_after t.speed t.restart t.search k searches blocks
     (have_roots m.delays rules t.speed t.restart t.search None accepted.owns searches blocks accepted.admissible.each accepted.admissible.admits.blocks))
     (cover_after m rules.outliers k searches blocks accepted.cover) goes fits

@@ -11,8 +11,8 @@ use Rattle.rinex_obs.specs.declared.obs.ObsEpoch.{ObsEpoch}
 use Rattle.grid_model.specs.Boxes.{GridBox, grid_box}
 use Rattle.sat_model.specs.Contractors.{LiesIn}
 use Rattle.grid_model.specs.declared.boxes.Box3.{Box3}
-use Rattle.tube_searches.specs.Tubes.{before_value, IsInsideOf}
-use Rattle.tube_searches.specs.declared.tube.Kept.{Kept}
+use Rattle.moving_tube.specs.Endings.{before_value, IsInsideOf}
+use Rattle.moving_tube.specs.declared.kept.Kept.{Kept}
 
 pub epoch_time : (e : ObsEpoch) → IsTime e.tag
 epoch_time e = (e.tag_from, omega (arith, ints, e.tag_under))

@@ -6,6 +6,7 @@ use Rattle.grid_model.specs.Boxes.{GridBox, grid_box}
 use Rattle.grid_model.specs.SearchBoxes.{IsSearchBox}
 use Rattle.grid_model.specs.declared.boxes.Box3.{Box3}
 use Rattle.grid_model.specs.declared.memory.NoMemory.{NoMemory}
+use Rattle.moving_tube.specs.Endings.{IsInsideOf}
 use Rattle.moving_tube.specs.Hulls.{hull_of, HullLies}
 use Rattle.moving_tube.specs.Roots.{handed_on, kept_with, kept_of}
 use Rattle.moving_tube.proofs.KeptLemmas.{few_kept}
@@ -15,7 +16,7 @@ use Rattle.rinex_obs.specs.declared.obs.ObsEpoch.{ObsEpoch}
 use Rattle.sat_model.specs.Contractors.{LiesIn}
 use Rattle.sat_model.specs.Logs.{Body, Block}
 use Rattle.subpaving.specs.LiveValues.{box_option}
-use Rattle.tube_searches.specs.Tubes.{TubeValue, with_kept, tube_searches, IsInsideOf, IsInside, IsOver, IsTaken}
+use Rattle.tube_searches.specs.Tubes.{TubeValue, with_kept, tube_searches, IsInside, IsOver, IsTaken}
 use Rattle.tube_searches.proofs.TubeLemmas.{over_searches, taken_searches, taken_last}
 
 pub same_option : (o : Option Box3) → box_option o ≡ option_map grid_box o

@@ -2,7 +2,8 @@
 use Rattle.std.specs.Prelude.{◌≡◌, ℕ, zero, suc, ℤ, List, [], ◌∷◌, map, Option, None, Some}
 use Rattle.epoch_selection.specs.Searches.{Search}
 use Rattle.paving_log.specs.CoverBoxes.{cover_of}
-use Rattle.moving_tube.specs.Tracks.{Stay, IsTrajectory, Visit, AreFound}
+use Rattle.moving_tube.specs.Roots.{Before}
+use Rattle.moving_tube.specs.Tracks.{AreFound, ComesFrom, GoesOn, Left, Stay, Visit}
 use Rattle.rinex_obs.specs.declared.obs.ObsEpoch.{ObsEpoch}
 use Rattle.grid_model.specs.Boxes.{GridBox}
 use Rattle.sat_model.specs.Logs.{Body, Block}
@@ -22,17 +23,19 @@ abbrev pub IsLost : Option Body → Type 0
 IsLost None = ⊥
 IsLost (Some body) = cover_of (Some body) ≡ []
 
--- a piece of the track begins with its first epoch, and behind each in which the receiver is lost
-abbrev pub BeginsPiece : List Block → ℕ → Type 0
-BeginsPiece blocks zero = Unit {0}
-BeginsPiece [] (suc k) = ⊥
-BeginsPiece (block ∷ more) (suc zero) = IsLost block.body
-BeginsPiece (block ∷ more) (suc (suc k)) = BeginsPiece more (suc k)
+-- A piece of the track begins with its first epoch, to which a receiver comes from what an earlier
+-- log leaves, and from anywhere where none leaves anything; and it begins behind each epoch in which
+-- the receiver is lost, to which one comes from anywhere.
+abbrev pub BeginsPiece : Option Before → Option Left → List Block → ℕ → Type 0
+BeginsPiece before left blocks zero = ComesFrom before left
+BeginsPiece before left [] (suc k) = ⊥
+BeginsPiece before left (block ∷ more) (suc zero) = IsLost block.body
+BeginsPiece before left (block ∷ more) (suc (suc k)) = BeginsPiece before left more (suc k)
 
 -- One stay for each of the first selected epochs, as many as there are stays: each in the search
--- box, and each later one within reach of the one before.
-abbrev pub IsPath : ℕ → GridBox → List ObsEpoch → List Stay → Type 0
-IsPath speed search epochs path = IsTrajectory speed search (map (λ epoch. epoch.tag) epochs) path
+-- box, and within reach of the one before, the first of where the receiver comes from.
+abbrev pub IsPath : ℕ → GridBox → Option Left → List ObsEpoch → List Stay → Type 0
+IsPath speed search left epochs path = GoesOn speed search left (map (λ epoch. epoch.tag) epochs) path
 
 abbrev pub StayFits : Option Body → (Pos → ℤ → Type 0) → Stay → Type 0
 StayFits None FitsAt stay = Unit {0}

@@ -3,15 +3,13 @@
 -- of a log.
 use Rattle.std.specs.Prelude.{◌≡◌, ◌⊎◌, ℕ, ℤ, Bool, List, [], ◌∷◌, Option, None, Some}
 use Rattle.epoch_selection.specs.Searches.{Search, search_in, epochs_left}
-use Rattle.subpaving.specs.LiveValues.{box_option}
-use Rattle.moving_tube.specs.Hulls.{HullLies}
+use Rattle.moving_tube.specs.Endings.{IsInsideOf, before_value}
 use Rattle.moving_tube.specs.Roots.{Before, handed_on, kept_of, root_for}
 use Rattle.rinex_obs.specs.declared.obs.ObsEpoch.{ObsEpoch}
 use Rattle.grid_model.specs.Boxes.{GridBox, grid_box}
 use Rattle.sat_model.specs.Contractors.{LiesIn}
 use Rattle.sat_model.specs.Logs.{Block}
 use Rattle.grid_model.specs.SearchBoxes.{IsSearchBox}
-use Rattle.tube_searches.specs.declared.tube.Kept.{Kept}
 use Rattle.tube_searches.specs.declared.tube.Tube.{Tube}
 
 -- ---- what a tube stands for
@@ -22,10 +20,6 @@ pub record TubeValue : Type 0 where
   pub speed : ℕ
   pub restart : Bool
   pub before : Option Before
-
-abbrev pub before_value : Option Kept → Option Before
-before_value None = None
-before_value (Some kept) = Some (record { tag = kept.tag; kept = box_option kept.part })
 
 abbrev pub tube_value : Tube → TubeValue
 tube_value t = record {
@@ -62,11 +56,7 @@ tube_searches t blocks = searches_from t.speed t.restart t.search t.before t.epo
 
 -- ---- the next one
 
--- what the epoch before kept lies in the search box
-abbrev pub IsInsideOf : GridBox → Option Before → Type 0
-IsInsideOf search None = Unit {0}
-IsInsideOf search (Some before) = HullLies before.kept search
-
+-- what the epoch before kept, or an earlier log leaves, lies in the search box
 abbrev pub IsInside : TubeValue → Type 0
 IsInside t = IsInsideOf t.search t.before
 

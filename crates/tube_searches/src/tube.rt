@@ -1,21 +1,12 @@
 //! Epochs with the boxes in which a moving receiver is searched.
 
 ghost use Rattle.std.specs.Prelude.{◌≤◌};
-ghost use Rattle.log_tokens.specs.Fields.{IsTime};
 ghost use Rattle.moving_tube.specs.Reach.{fastest};
 
 use epoch_selection::Searches;
 use grid_model::Box3;
-use moving_tube::root_behind;
+use moving_tube::{Kept, root_behind};
 use rinex_obs::ObsEpoch;
-
-/// The time of an epoch, and the box in which the receiver was then; none where it is lost.
-#[derive(Clone, Copy)]
-pub struct Kept {
-    pub tag: i128,
-    pub part: Option<Box3>,
-    pub ghost time: { IsTime tag },
-}
 
 /// The selected ones among the epochs that are left of a file, and the search box of all of them. A
 /// receiver that makes at most so many mm in a second is searched where it may have come from what
@@ -32,6 +23,7 @@ pub struct Tube<'a> {
 
 impl<'a> Tube<'a> {
     ghost use Rattle.std.specs.Prelude.{◌≡◌, MatchOption};
+    ghost use Rattle.log_tokens.specs.Fields.{IsTime};
     ghost use Rattle.subpaving.specs.LiveValues.{box_option};
     ghost use Rattle.moving_tube.specs.Hulls.{HullLies};
     ghost use Rattle.moving_tube.specs.Roots.{root_for};

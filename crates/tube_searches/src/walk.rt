@@ -3,17 +3,17 @@
 ghost use Rattle.std.specs.Prelude.{◌≡◌};
 ghost use Rattle.epoch_selection.specs.Searches.{epochs_left};
 ghost use Rattle.grid_model.specs.Boxes.{grid_box};
+ghost use Rattle.moving_tube.specs.Endings.{before_value};
 ghost use Rattle.moving_tube.specs.Hulls.{HullLies};
 ghost use Rattle.moving_tube.specs.Roots.{handed_on, kept_of};
 ghost use Rattle.sat_model.specs.Contractors.{LiesIn};
 ghost use Rattle.subpaving.specs.LiveValues.{box_option};
-ghost use Rattle.tube_searches.specs.Tubes.{before_value, tube_value, with_kept, tube_searches};
-ghost use Rattle.tube_searches.specs.Tubes.{IsInside};
+ghost use Rattle.tube_searches.specs.Tubes.{tube_value, with_kept, tube_searches, IsInside};
 
-use crate::tube::{Kept, Tube};
+use crate::tube::Tube;
 use epoch_selection::Walk;
 use grid_model::{Box3, NoMemory};
-use moving_tube::cover_hull;
+use moving_tube::{Kept, cover_hull};
 use paving_log::LogEpoch;
 use paving_log_check::LogWalk;
 use rinex_obs::ObsEpoch;

@@ -33,7 +33,7 @@ Progress = Callable[[int], None]  # is called with the number of each epoch that
 
 YES = re.compile(r"yes (\d+)")
 NO = re.compile(r"no (\d+) (\w+) line (\d+)(.*)")
-REFUSED = re.compile(r"(settings|nav|station|obs|zones|log|rows) (\d+) (\w+)(?: line (\d+))?(.*)")
+REFUSED = re.compile(r"(settings|nav|station|obs|zones|log|after|rows) (\d+) (\w+)(?: line (\d+))?(.*)")
 
 
 class ProgramError(Error):
@@ -137,9 +137,11 @@ def settings_file(settings: PathLike | Settings) -> Iterator[str]:
         yield str(path)
 
 
-def chosen(first: int | None, last: int | None, station: PathLike | None) -> list[str]:
-    """The words that select epochs, and that name the file of a station."""
-    given = {"--from": first, "--to": last, "--station": station}
+def chosen(
+    first: int | None, last: int | None, station: PathLike | None, after: PathLike | None = None
+) -> list[str]:
+    """The words that select epochs, and that name the file of a station and an earlier log."""
+    given = {"--from": first, "--to": last, "--station": station, "--after": after}
     return [word for name, it in given.items() if it is not None for word in (name, str(it))]
 
 
@@ -211,12 +213,16 @@ def track(
     first: int | None = None,
     last: int | None = None,
     station: PathLike | None = None,
+    after: PathLike | None = None,
     program: PathLike | None = None,
     progress: Progress | None = None,
 ) -> Report:
-    """The same for a receiver whose greatest speed the settings declare."""
+    """The same for a receiver whose greatest speed the settings declare.
+
+    `after` is an earlier log, behind whose last paved epoch the track goes on.
+    """
     files = (obs, nav, settings, log)
-    return solved("track", files, chosen(first, last, station), program, progress)
+    return solved("track", files, chosen(first, last, station, after), program, progress)
 
 
 def verdict_of(words: list[str]) -> Verdict:
@@ -268,10 +274,14 @@ def retrack(
     first: int | None = None,
     last: int | None = None,
     station: PathLike | None = None,
+    after: PathLike | None = None,
     program: PathLike | None = None,
 ) -> Verdict:
-    """Checks a log of `track` against its files. Refused where a file isn't accepted."""
-    return checked("retrack", (obs, nav, settings, log), chosen(first, last, station), program)
+    """Checks a log of `track` against its files, and the earlier log that it goes on behind.
+
+    Refused where a file isn't accepted.
+    """
+    return checked("retrack", (obs, nav, settings, log), chosen(first, last, station, after), program)
 
 
 def judge(log: PathLike, *, program: PathLike | None = None) -> Verdict:
@@ -299,13 +309,15 @@ def guard(
     first: int | None = None,
     last: int | None = None,
     station: PathLike | None = None,
+    after: PathLike | None = None,
     program: PathLike | None = None,
 ) -> list[Guarded]:
-    """Checks a log, and says what its regions say of zones; `tracked` where it is one of `track`.
+    """Checks a log, and says what its regions say of zones; `tracked` where it is one of `track`,
+    `after` being the earlier log that it goes on behind.
 
     Refused where a file isn't accepted, or the log fails a test.
     """
-    options = chosen(first, last, station) + (["--track"] if tracked else [])
+    options = chosen(first, last, station, after) + (["--track"] if tracked else [])
     with settings_file(settings) as toml:
         words = [str(find_program(program)), "guard", *options, "--", str(obs), str(nav), toml]
         lines = list(lines_of([*words, str(zones), str(log)]))

@@ -1,5 +1,7 @@
-use Rattle.command_words.proofs.StatedLemmas.{judge_taken, pave_taken, check_taken, retrack_taken, make_taken}
-use Rattle.command_words.proofs.QuietLemmas.{solve_taken, track_taken}
+use Rattle.command_words.proofs.StatedLemmas.{judge_taken, pave_taken, check_taken, make_taken}
+use Rattle.command_words.proofs.QuietLemmas.{solve_taken}
+use Rattle.command_words.proofs.TrackLemmas.{track_taken}
+use Rattle.command_words.proofs.RetrackLemmas.{retrack_taken}
 use Rattle.command_words.proofs.GuardLemmas.{guard_taken}
 use Rattle.command_words.proofs.laws.stated_words_are_taken.Goals as goal
 

@@ -63,4 +63,5 @@ returns-clause-enough c =
           (rw c.wants_position-position.ensures at o.known);
       usual = o.usual;
       ages = tt;
+      inside = λ root is. tt;
     }

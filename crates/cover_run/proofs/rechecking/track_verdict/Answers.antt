@@ -11,7 +11,8 @@ use Rattle.cover_run.proofs.rechecking.track_verdict.Goals as goal
 
 pub check_tube-requires-clause-inside : goal.check_tube-requires-clause-inside
 check_tube-requires-clause-inside c =
-    subst (λ (t : TubeValue). IsInside t) (sym c.declared_tube-tube.ensures.value) tt
+    subst (λ (t : TubeValue). IsInside t) (sym c.declared_tube-tube.ensures.value)
+    (c.requires.ready.enough.inside _ c.declared_tube-tube.ensures.declared.search)
 
 pub returns-clause-yes : goal.returns-clause-yes
 returns-clause-yes c =

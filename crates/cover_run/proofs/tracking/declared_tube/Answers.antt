@@ -2,7 +2,7 @@ use Rattle.std.proofs.Common.{List, ap}
 use Rattle.epoch_selection.specs.Selections.{selected}
 use Rattle.grid_model.specs.Boxes.{grid_box}
 use Rattle.rinex_obs.specs.declared.obs.ObsEpoch.{ObsEpoch}
-use Rattle.std.specs.Prelude.{None}
+use Rattle.moving_tube.specs.Endings.{before_value}
 use Rattle.tube_searches.specs.Tubes.{TubeValue}
 use Rattle.cover_run.proofs.tracking.declared_tube.Goals as goal
 
@@ -19,5 +19,5 @@ returns-clause-value c =
       search = grid_box c.root.result;
       speed = c.declared_speed.result;
       restart = c.args.inputs.now.settings.restart;
-      before = None;
+      before = before_value c.args.inputs.now.after;
     } in t) c.deref.ensures.value

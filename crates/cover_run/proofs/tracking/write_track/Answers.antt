@@ -30,7 +30,8 @@ of_walk-blocks-requires g c =
     let writable = subst (λ (t : TubeValue). AreWritable None t.epochs) is
     (selected_writable c.args.chosen c.args.inputs.now.obs.epochs.items usual.rising usual.distinct
     usual.named) in
-    let inside = subst (λ (t : TubeValue). IsInside t) is tt in
+    let inside = subst (λ (t : TubeValue). IsInside t) is
+    (c.requires.enough.inside _ c.declared_tube-tube.ensures.declared.search) in
     let rows = c.rows_of-source.result in
     let skips = rows_skips rows.nav.now rows.settings.now (option_map station_of rows.station) in
     search rules

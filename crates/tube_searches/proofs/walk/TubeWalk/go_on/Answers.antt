@@ -1,9 +1,10 @@
 use Rattle.std.proofs.Common.{Option, sym, ap, subst, ◌∙◌}
 use Rattle.grid_model.specs.Boxes.{GridBox, grid_box}
+use Rattle.moving_tube.specs.Endings.{IsInsideOf}
 use Rattle.moving_tube.specs.Hulls.{HullLies}
 use Rattle.moving_tube.specs.Roots.{Before}
 use Rattle.subpaving.specs.LiveValues.{box_option}
-use Rattle.tube_searches.specs.Tubes.{IsInsideOf, tube_value, with_kept, tube_searches}
+use Rattle.tube_searches.specs.Tubes.{tube_value, with_kept, tube_searches}
 use Rattle.tube_searches.proofs.WalkLemmas.{handed_inside, same_option}
 use Rattle.tube_searches.proofs.walk.TubeWalk.go_on.Goals as goal
 
