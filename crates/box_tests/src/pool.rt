@@ -4,14 +4,23 @@ use box_pool::{Item, MAX_NODES, Pool};
 use grid_model::{Box3, NoMemory, Pos};
 use std::fs;
 
-/// A call of the pool, and its answer.
-#[derive(Drop)]
+/// The items of a pool.
+#[derive(Clone, Copy)]
+enum Named {
+    A,
+    B,
+}
+
+/// A call of the pool, and its answer. The hull is that of these items.
+#[derive(Clone, Copy)]
 enum Call {
-    Push(u8, Item),
-    Pop(u8, Option<Item>),
+    Push(u8, Named),
+    Pop(u8, Option<Named>),
     Spare(u32),
     Greatest(Option<u8>),
-    Hull(Option<Box3>),
+    NoHull,
+    HullOfA,
+    HullOfBoth,
 }
 
 const FAR_WEST: Box3 = Box3 {
@@ -36,49 +45,61 @@ const A: Item = Item {
 
 const B: Item = Item { id: 2, part: EAST };
 
+/// Calls of a pool with two nodes, one after another.
+static CALLS: [Call; 21] = [
+    Call::Greatest(None),
+    Call::NoHull,
+    // The first node is given back, and used again before the second one is.
+    Call::Push(0, Named::B),
+    Call::Pop(0, Some(Named::B)),
+    Call::Spare(2),
+    Call::Push(5, Named::A),
+    Call::Push(9, Named::B),
+    Call::Spare(0),
+    Call::Greatest(Some(9)),
+    Call::HullOfBoth,
+    Call::Pop(9, Some(Named::B)),
+    Call::Pop(9, None),
+    Call::HullOfA,
+    Call::Pop(5, Some(Named::A)),
+    Call::Greatest(None),
+    Call::NoHull,
+    Call::Spare(2),
+    // A queue gives back its items in their order.
+    Call::Push(47, Named::B),
+    Call::Push(47, Named::A),
+    Call::Pop(47, Some(Named::B)),
+    Call::Pop(47, Some(Named::A)),
+];
+
+/// The item of a name.
+fn item_of(name: Named) -> Item {
+    match name {
+        Named::A => A,
+        Named::B => B,
+    }
+}
+
 #[test]
 fn two_nodes(rt: HostRuntime) -> Result<(), NoMemory> {
-    let calls = [
-        Call::Greatest(None),
-        Call::Hull(None),
-        // The first node is given back, and used again before the second one is.
-        Call::Push(0, B),
-        Call::Pop(0, Some(B)),
-        Call::Spare(2),
-        Call::Push(5, A),
-        Call::Push(9, B),
-        Call::Spare(0),
-        Call::Greatest(Some(9)),
-        Call::Hull(Some(BOTH)),
-        Call::Pop(9, Some(B)),
-        Call::Pop(9, None),
-        Call::Hull(Some(FAR_WEST)),
-        Call::Pop(5, Some(A)),
-        Call::Greatest(None),
-        Call::Hull(None),
-        Call::Spare(2),
-        // A queue gives back its items in their order.
-        Call::Push(47, B),
-        Call::Push(47, A),
-        Call::Pop(47, Some(B)),
-        Call::Pop(47, Some(A)),
-    ];
     let mut pool = Pool::with_nodes(rt.alloc(), 2)?;
-    for (step, call) in calls.iter().enumerate() {
-        match call {
-            Call::Push(bucket, item) => {
-                assert!(rt; *bucket < 48 && pool.spare() > 0, "{step}");
-                if *bucket < 48 && pool.spare() > 0 {
-                    pool.push(*bucket, *item);
+    for (step, call) in CALLS.iter().enumerate() {
+        match *call {
+            Call::Push(bucket, name) => {
+                assert!(rt; bucket < 48 && pool.spare() > 0, "{step}");
+                if bucket < 48 && pool.spare() > 0 {
+                    pool.push(bucket, item_of(name));
                 }
             }
-            Call::Pop(bucket, item) => {
-                assert!(rt; *bucket < 48, "{step}");
-                assert_eq!(rt; pool.pop(*bucket), *item, "{step}");
+            Call::Pop(bucket, name) => {
+                assert!(rt; bucket < 48, "{step}");
+                assert_eq!(rt; pool.pop(bucket), name.map(item_of), "{step}");
             }
-            Call::Spare(nodes) => assert_eq!(rt; pool.spare(), *nodes, "{step}"),
-            Call::Greatest(bucket) => assert_eq!(rt; pool.greatest(), *bucket, "{step}"),
-            Call::Hull(hull) => assert_eq!(rt; pool.hull(), *hull, "{step}"),
+            Call::Spare(nodes) => assert_eq!(rt; pool.spare(), nodes, "{step}"),
+            Call::Greatest(bucket) => assert_eq!(rt; pool.greatest(), bucket, "{step}"),
+            Call::NoHull => assert_eq!(rt; pool.hull(), None, "{step}"),
+            Call::HullOfA => assert_eq!(rt; pool.hull(), Some(FAR_WEST), "{step}"),
+            Call::HullOfBoth => assert_eq!(rt; pool.hull(), Some(BOTH), "{step}"),
         }
     }
     Ok(())

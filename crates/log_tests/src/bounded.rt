@@ -2,7 +2,7 @@
 
 use crate::renewed::found;
 use crate::writing::{
-    Devices, FIRST_REPORT, Held, MORE_REPORT, WHOLE, both, failing_log, log_bytes, rows_in, write,
+    Devices, FIRST_REPORT, Held, MORE_REPORT, WHOLE, both, log_bytes, rows_in, write,
 };
 use arrayvec::ArrayVec;
 use bound_directions::{Direction, Directions};
@@ -13,7 +13,7 @@ use std::test::Fail;
 
 /// A box that is closed at the edge, as it is in version 3, with what stands behind its root: 0.5 m are
 /// left of each of four ranges, three of them along the axes.
-const ROWS: [&str; 2] = [
+static ROWS: [&str; 2] = [
     "rules 0 0 1000000\nepoch 1 1388102400000000000000 4\n\
 sat G01 20000000000000 20000000000000 0 0 0 0 20000000000000 20000000000000 -500000 500000\n\
 sat G02 0 0 20000000000000 20000000000000 0 0 20000000000000 20000000000000 -500000 500000\n",
@@ -44,7 +44,7 @@ const ALONG: [Direction; 5] = [
 
 /// The first lines of their bounds. Two rows leave x - y or z - x and nothing of the offset, so that
 /// it is at most 1 m, and 3 um for rounding. Along the others the box ends before any sum of rows does.
-const BOUNDS: [&str; 5] = [
+static BOUNDS: [&str; 5] = [
     "bound 1 -1 0 1000003 1\n",
     "bound -1 0 1 1000003 1\n",
     "bound 1 0 0 1000000 1\n",
@@ -54,7 +54,7 @@ const BOUNDS: [&str; 5] = [
 
 /// Rows of a box of 800 m: 301 m are left of each of four ranges, two of them from the two ends of an
 /// axis.
-const LONG_ROWS: [&str; 2] = [
+static LONG_ROWS: [&str; 2] = [
     "rules 0 0 1000000\nepoch 1 1388102400000000000000 4\n\
 sat G01 20000000000000 20000000000000 0 0 0 0 20000000000000 20000000000000 -301000000 301000000\n\
 sat G02 -20000000000000 -20000000000000 0 0 0 0 20000000000000 20000000000000 -301000000 301000000\n",
@@ -68,7 +68,7 @@ const LONG_STEPS: &str = "edge 0 -701007999 701000000\ndone 0\n";
 /// The first lines of their bounds, where one along x is asked for. Two rows leave x, and end it at
 /// 301 m and what their forms leave out. The last end is nearer than the first, which is along x too,
 /// as the bounds before it made the hull shorter. On the other axes the box ends before any sum does.
-const LONG_BOUNDS: [&str; 7] = [
+static LONG_BOUNDS: [&str; 7] = [
     "bound 1 0 0 301006322 1",
     "bound -1 0 0 301005840 1",
     "bound 0 1 0 400000000 1",
@@ -147,22 +147,23 @@ fn bounds_along_the_axes_come_first_over_a_long_hull(rt: HostRuntime) -> Result<
     Ok(())
 }
 
-// The lines up to the number of splits have 535 bytes, and the next one has 23.
+/// A limit and devices, the fault that ends the writing, and how many bytes the log has then. The
+/// lines up to the number of splits have 535 bytes, and the next one has 23.
+static LIMITS: [(u32, Devices, WriteFault, usize); 4] = [
+    (557, WHOLE, WriteFault::Full, 535),
+    (558, WHOLE, WriteFault::Full, 558),
+    (559, WHOLE, WriteFault::Full, 558),
+    (5_000, Devices { fails: 2, ..WHOLE }, WriteFault::Log, 0),
+];
+
 #[test]
 fn a_log_may_be_full_among_its_bounds(rt: HostRuntime) -> Result<(), Fail> {
     let alloc = rt.alloc();
-    let full = Err(WriteFault::Full);
     let whole = write_bounded(alloc, &ROWS, &ALONG, 5_000, &WHOLE)?;
-    let table = [
-        (557, WHOLE, full, 535),
-        (558, WHOLE, full, 558),
-        (559, WHOLE, full, 558),
-        (5_000, failing_log(2), Err(WriteFault::Log), 0),
-    ];
-    for (limit, devices, result, bytes) in table {
-        let held = write_bounded(alloc, &ROWS, &ALONG, limit, &devices)?;
-        assert_eq!(rt; held.result, result);
-        assert_eq!(rt; log_bytes(&held).len(), bytes);
+    for (limit, devices, fault, bytes) in &LIMITS {
+        let held = write_bounded(alloc, &ROWS, &ALONG, *limit, devices)?;
+        assert_eq!(rt; held.result, Err(*fault));
+        assert_eq!(rt; log_bytes(&held).len(), *bytes);
         assert!(rt; log_bytes(&whole).starts_with(log_bytes(&held)));
     }
     Ok(())

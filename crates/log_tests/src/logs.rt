@@ -356,8 +356,8 @@ fn a_log_that_was_read_is_written_as_it_was(rt: HostRuntime) -> Result<(), Fail>
     text.push_str(
         "few 2 1388102401000000000000 1\nskip G02 1\nskip G03 6 20\nepoch 3 1388102402000000000000 0\nroot 0 0 0 1 1 1\ncut 0 3 0\nsplit 0 2\nout 1\nin 2 -3 -4 5\ndone 1\n",
     )?;
-    let renewed = log_with(rt.alloc(), "gpscover 2\n", LEFT, ROWS)?;
-    let bounded = bounded_log(rt.alloc(), "gpscover 4\n", [SHOWN, SHOWN])?;
+    let renewed = log_with(rt.alloc(), "gpscover 2\n", LEFT, &ROWS)?;
+    let bounded = bounded_log(rt.alloc(), "gpscover 4\n", &[SHOWN, SHOWN])?;
     for text in [text.as_str(), renewed.as_str(), bounded.as_str()] {
         if text.len() > 4_000_000_000 {
             return Ok(());

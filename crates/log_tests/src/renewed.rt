@@ -9,12 +9,19 @@ use std::alloc::{AllocError, Global};
 use std::rc::Rc;
 use std::test::Fail;
 
-pub const ROWS: [&str; 4] = [
-    "sat G01 20000000000000 20000000000000 0 0 0 0 20000000000000 20000000000000 -5000000 5000000\n",
-    "sat G02 0 0 20000000000000 20000000000000 0 0 20000000000000 20000000000000 -50000000 50000000\n",
-    "sat G03 0 0 0 0 20000000000000 20000000000000 20000000000000 20000000000000 -50000000 50000000\n",
-    "sat G05 -20000000000000 -20000000000000 0 0 0 0 20000000000000 20000000000000 -5000000 5000000\n",
-];
+const FIRST: &str =
+    "sat G01 20000000000000 20000000000000 0 0 0 0 20000000000000 20000000000000 -5000000 5000000\n";
+
+const SECOND: &str =
+    "sat G02 0 0 20000000000000 20000000000000 0 0 20000000000000 20000000000000 -50000000 50000000\n";
+
+const THIRD: &str =
+    "sat G03 0 0 0 0 20000000000000 20000000000000 20000000000000 20000000000000 -50000000 50000000\n";
+
+const LAST: &str =
+    "sat G05 -20000000000000 -20000000000000 0 0 0 0 20000000000000 20000000000000 -5000000 5000000\n";
+
+pub static ROWS: [&str; 4] = [FIRST, SECOND, THIRD, LAST];
 
 /// What is left of the root behind both cuts.
 pub const LEFT: &str = "renew -6000000 -1000000 -1000000 6250000 1000000 1000000\n";
@@ -25,18 +32,18 @@ pub fn log_with(
     alloc: Global,
     version: &str,
     renew: &str,
-    renewed: [&str; 4],
+    renewed: &[&str; 4],
 ) -> Result<String, AllocError> {
     let mut text = String::from_str(alloc, version)?;
     text.push_str("rules 0 0 1000000\nepoch 1 1388102400000000000000 4\n")?;
-    for row in ROWS {
-        text.push_str(row)?;
+    for row in &ROWS {
+        text.push_str(*row)?;
     }
     text.push_str("root -8000000 -1000000 -1000000 8000000 1000000 1000000\n")?;
     text.push_str("cut 0 0 -6000000\ncut 0 1 6250000\n")?;
     text.push_str(renew)?;
     for row in renewed {
-        text.push_str(row)?;
+        text.push_str(*row)?;
     }
     text.push_str("edge 0 -11000000 11000000\ndone 0\n")?;
     Ok(text)
@@ -62,40 +69,56 @@ pub fn found(alloc: Global, text: &str) -> Result<Result<Verdict, (u32, u8)>, Fa
     }
 }
 
-pub fn no(number: u8, line: u32) -> Verdict {
-    Verdict::No(Fault {
-        number,
-        line,
-        theirs: Span { lo: 0, hi: 0 },
-        ours: Span { lo: 0, hi: 0 },
-    })
+/// What is found in a text: that the log is right, with one box, the number of its first fault and
+/// the line, or the line and kind where it is no log.
+#[derive(Clone, Copy)]
+pub enum Want {
+    Yes,
+    No(u8, u32),
+    NoLog(u32, u8),
 }
+
+/// The same as it is found.
+pub fn wanted(want: Want) -> Result<Verdict, (u32, u8)> {
+    match want {
+        Want::Yes => Ok(Verdict::Yes { boxes: 1 }),
+        Want::No(number, line) => Ok(Verdict::No(Fault {
+            number,
+            line,
+            theirs: Span { lo: 0, hi: 0 },
+            ours: Span { lo: 0, hi: 0 },
+        })),
+        Want::NoLog(line, kind) => Err((line, kind)),
+    }
+}
+
+const OTHER: &str =
+    "sat G04 20000000000000 20000000000000 0 0 0 0 20000000000000 20000000000000 -5000000 5000000\n";
+
+/// The second cut leaves less than this at one end.
+const NARROW: &str = "renew -5999999 -1000000 -1000000 6250000 1000000 1000000\n";
+
+/// The root ends before this.
+const WIDE: &str = "renew -8000001 -1000000 -1000000 8000000 1000000 1000000\n";
+
+/// The first line, that of the renewal and those of its rows, and what is found.
+static CASES: [(&str, &str, [&str; 4], Want); 8] = [
+    ("gpscover 2\n", LEFT, [FIRST, SECOND, THIRD, LAST], Want::Yes),
+    ("gpscover 3\n", LEFT, [FIRST, SECOND, THIRD, LAST], Want::Yes),
+    ("gpscover 1\n", LEFT, [FIRST, SECOND, THIRD, LAST], Want::NoLog(11, 2)),
+    ("gpscover 2\n", NARROW, [FIRST, SECOND, THIRD, LAST], Want::No(65, 11)),
+    ("gpscover 2\n", WIDE, [FIRST, SECOND, THIRD, LAST], Want::No(65, 11)),
+    ("gpscover 2\n", LEFT, [FIRST, SECOND, THIRD, ""], Want::NoLog(15, 2)),
+    ("gpscover 2\n", LEFT, [OTHER, SECOND, THIRD, LAST], Want::No(52, 12)),
+    ("gpscover 2\n", "", ["", "", "", ""], Want::Yes),
+];
 
 #[test]
 fn renewed_rows_are_judged(rt: HostRuntime) -> Result<(), Fail> {
     let alloc = rt.alloc();
-    let [first, second, third, last] = ROWS;
-    let other = "sat G04 20000000000000 20000000000000 0 0 0 0 20000000000000 20000000000000 \
-                 -5000000 5000000\n";
-    // The second cut leaves less than this at one end.
-    let narrow = "renew -5999999 -1000000 -1000000 6250000 1000000 1000000\n";
-    // The root ends before this.
-    let wide = "renew -8000001 -1000000 -1000000 8000000 1000000 1000000\n";
-    let two = "gpscover 2\n";
-    let yes = Ok(Verdict::Yes { boxes: 1 });
-    let table = [
-        (two, LEFT, ROWS, yes),
-        ("gpscover 3\n", LEFT, ROWS, yes),
-        ("gpscover 1\n", LEFT, ROWS, Err((11, 2))),
-        (two, narrow, ROWS, Ok(no(65, 11))),
-        (two, wide, ROWS, Ok(no(65, 11))),
-        (two, LEFT, [first, second, third, ""], Err((15, 2))),
-        (two, LEFT, [other, second, third, last], Ok(no(52, 12))),
-        (two, "", [""; 4], yes),
-    ];
-    for (version, renew, renewed, want) in table {
-        let text = log_with(alloc, version, renew, renewed)?;
-        assert_eq!(rt; found(alloc, &text)?, want, "at {text}");
+    for (version, renew, rows, want) in &CASES {
+        let text = log_with(alloc, *version, *renew, rows)?;
+        assert_eq!(rt; found(alloc, &text)?, wanted(*want), "at {text}");
     }
     Ok(())
 }

@@ -155,25 +155,27 @@ fn skip(number: u8, test: u8) -> SatEntry {
     }
 }
 
+/// The first and the last epoch that are selected, and how many blocks they have.
+static SELECTIONS: [(u32, u32, usize); 4] = [
+    (2, 2, 1),
+    (1, 1, 1),
+    (3, LAST_EPOCH, 0),
+    (2, 1, 0),
+];
+
 #[test]
-fn blocks_of_the_selected_epochs(rt: HostRuntime) -> Result<(), Fail> {
-    for (selection, count) in [
-        (Selection::all(), 2),
-        (Selection { from: 2, to: 2 }, 1),
-        (Selection { from: 1, to: 1 }, 1),
-        (
-            Selection {
-                from: 3,
-                to: LAST_EPOCH,
-            },
-            0,
-        ),
-        (Selection { from: 2, to: 1 }, 0),
-    ] {
-        let blocks = blocks_of(rt.alloc(), selection)?;
+fn a_selection_takes_its_epochs_alone(rt: HostRuntime) -> Result<(), Fail> {
+    for &(from, to, count) in &SELECTIONS {
+        let blocks = blocks_of(rt.alloc(), Selection { from, to })?;
         assert_eq!(rt; blocks.len(), count);
     }
+    Ok(())
+}
+
+#[test]
+fn blocks_of_all_epochs(rt: HostRuntime) -> Result<(), Fail> {
     let blocks = blocks_of(rt.alloc(), Selection::all())?;
+    assert_eq!(rt; blocks.len(), 2);
     let first = blocks.first().ok_or("first")?;
     assert_eq!(rt; (first.index, first.n, first.is_few()), (1, 4, false));
     assert_eq!(rt; first.ps, 1_388_628_001_000_000_000_000);

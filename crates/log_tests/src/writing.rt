@@ -35,10 +35,10 @@ pub fn rows_in(alloc: Global, text: &str) -> Result<Log, Fail>
 /// fails, none where it is 0. The log is created by call 1 of the shelf.
 #[derive(Clone, Copy)]
 pub struct Devices {
-    room: u64,
-    fails: u64,
-    out_room: u64,
-    out_fails: u64,
+    pub room: u64,
+    pub fails: u64,
+    pub out_room: u64,
+    pub out_fails: u64,
 }
 
 /// Devices that take all.
@@ -48,26 +48,6 @@ pub const WHOLE: Devices = Devices {
     out_room: 200_000,
     out_fails: 0,
 };
-
-/// Devices whose log fails at a call.
-pub fn failing_log(fails: u64) -> Devices {
-    Devices { fails, ..WHOLE }
-}
-
-/// Devices whose log has room for so many bytes.
-fn small_log(room: u64) -> Devices {
-    Devices { room, ..WHOLE }
-}
-
-/// Devices whose report fails at a call.
-fn failing_report(out_fails: u64) -> Devices {
-    Devices { out_fails, ..WHOLE }
-}
-
-/// Devices whose report has room for so many bytes.
-fn small_report(out_room: u64) -> Devices {
-    Devices { out_room, ..WHOLE }
-}
 
 /// What they hold in the end.
 #[derive(Drop)]
@@ -144,56 +124,73 @@ pub fn both(alloc: Global, first: &str, second: &str) -> Result<String, AllocErr
     Ok(text)
 }
 
+/// A limit and devices, the fault that ends the writing, if one does, and what the log and the report
+/// hold then, each in two parts.
+type Piece = (
+    u32,
+    Devices,
+    Option<WriteFault>,
+    (&'static str, &'static str),
+    (&'static str, &'static str),
+);
+
+static PIECES: [Piece; 8] = [
+    (2_000, WHOLE, None, (ROWS, STEPS), (FIRST_REPORT, MORE_REPORT)),
+    (100, WHOLE, Some(WriteFault::Full), (HEAD, ""), (FIRST_REPORT, "")),
+    (28, WHOLE, Some(WriteFault::Full), ("gpscover 1\n", ""), ("", "")),
+    (0, WHOLE, Some(WriteFault::Full), ("", ""), ("", "")),
+    (
+        2_000,
+        Devices { fails: 2, ..WHOLE },
+        Some(WriteFault::Log),
+        ("", ""),
+        ("", ""),
+    ),
+    (
+        100,
+        Devices { room: 20, ..WHOLE },
+        Some(WriteFault::Log),
+        ("gpscover 1\nrules 0 0", ""),
+        ("", ""),
+    ),
+    (
+        2_000,
+        Devices {
+            out_fails: 1,
+            ..WHOLE
+        },
+        Some(WriteFault::Out),
+        (ROWS, STEPS),
+        ("", ""),
+    ),
+    (
+        100,
+        Devices {
+            out_room: 20,
+            ..WHOLE
+        },
+        Some(WriteFault::Out),
+        (HEAD, ""),
+        ("epoch 1 gps 13881024", ""),
+    ),
+];
+
+/// How the writing ends.
+fn ended(fault: Option<WriteFault>) -> Result<(), WriteFault> {
+    match fault {
+        Some(fault) => Err(fault),
+        None => Ok(()),
+    }
+}
+
 // What fits one piece goes out at the end, or at a full log in the middle of the epoch. A device
 // that is full keeps what it took.
 #[test]
 fn one_piece_goes_out_at_the_end(rt: HostRuntime) -> Result<(), Fail> {
     let alloc = rt.alloc();
-    let all = 2_000;
-    let full = Err(WriteFault::Full);
-    let table = [
-        (
-            all,
-            WHOLE,
-            Ok(()),
-            (ROWS, STEPS),
-            (FIRST_REPORT, MORE_REPORT),
-        ),
-        (100, WHOLE, full, (HEAD, ""), (FIRST_REPORT, "")),
-        (28, WHOLE, full, ("gpscover 1\n", ""), ("", "")),
-        (0, WHOLE, full, ("", ""), ("", "")),
-        (
-            all,
-            failing_log(2),
-            Err(WriteFault::Log),
-            ("", ""),
-            ("", ""),
-        ),
-        (
-            100,
-            small_log(20),
-            Err(WriteFault::Log),
-            ("gpscover 1\nrules 0 0", ""),
-            ("", ""),
-        ),
-        (
-            all,
-            failing_report(1),
-            Err(WriteFault::Out),
-            (ROWS, STEPS),
-            ("", ""),
-        ),
-        (
-            100,
-            small_report(20),
-            Err(WriteFault::Out),
-            (HEAD, ""),
-            ("epoch 1 gps 13881024", ""),
-        ),
-    ];
-    for (limit, devices, result, log, report) in table {
-        let held = write_rows(alloc, ROWS, limit, &devices)?;
-        assert_eq!(rt; held.result, result);
+    for (limit, devices, fault, log, report) in &PIECES {
+        let held = write_rows(alloc, ROWS, *limit, devices)?;
+        assert_eq!(rt; held.result, ended(*fault));
         assert_eq!(rt; log_bytes(&held), both(alloc, log.0, log.1)?.as_bytes());
         assert_eq!(rt;
             held.out.bytes(),
@@ -258,37 +255,80 @@ fn long_rows(alloc: Global) -> Result<String, Fail> {
     Ok(text)
 }
 
+/// The same with the lengths of the log and of the report, of epochs that fill more than a piece.
+static LONG_PIECES: [(u32, Devices, Option<WriteFault>, usize, usize); 8] = [
+    (100_000, WHOLE, None, 72_026, 94_000),
+    (
+        100_000,
+        Devices { fails: 2, ..WHOLE },
+        Some(WriteFault::Log),
+        0,
+        0,
+    ),
+    (
+        100_000,
+        Devices { fails: 3, ..WHOLE },
+        Some(WriteFault::Log),
+        50_210,
+        65_518,
+    ),
+    (
+        100_000,
+        Devices {
+            room: 60_000,
+            ..WHOLE
+        },
+        Some(WriteFault::Log),
+        60_000,
+        65_518,
+    ),
+    (
+        100_000,
+        Devices {
+            out_fails: 1,
+            ..WHOLE
+        },
+        Some(WriteFault::Out),
+        50_210,
+        0,
+    ),
+    (
+        100_000,
+        Devices {
+            out_fails: 2,
+            ..WHOLE
+        },
+        Some(WriteFault::Out),
+        72_026,
+        65_518,
+    ),
+    (
+        100_000,
+        Devices {
+            out_room: 70_000,
+            ..WHOLE
+        },
+        Some(WriteFault::Out),
+        72_026,
+        70_000,
+    ),
+    (60_000, WHOLE, Some(WriteFault::Full), 59_966, 78_255),
+];
+
 // The report fills the first piece, with the lines of 1,394 epochs: 65,518 of 65,536 bytes. The
 // head has 26 bytes.
 #[test]
 fn the_logs_piece_goes_out_before_the_reports(rt: HostRuntime) -> Result<(), Fail> {
     let alloc = rt.alloc();
     let rows = long_rows(alloc)?;
-    let all = 100_000;
-    let table = [
-        (all, WHOLE, Ok(()), 72_026, 94_000),
-        (all, failing_log(2), Err(WriteFault::Log), 0, 0),
-        (all, failing_log(3), Err(WriteFault::Log), 50_210, 65_518),
-        (all, small_log(60_000), Err(WriteFault::Log), 60_000, 65_518),
-        (all, failing_report(1), Err(WriteFault::Out), 50_210, 0),
-        (all, failing_report(2), Err(WriteFault::Out), 72_026, 65_518),
-        (
-            all,
-            small_report(70_000),
-            Err(WriteFault::Out),
-            72_026,
-            70_000,
-        ),
-        (60_000, WHOLE, Err(WriteFault::Full), 59_966, 78_255),
-    ];
-    let whole = write_rows(alloc, &rows, all, &WHOLE)?;
+    let whole = write_rows(alloc, &rows, 100_000, &WHOLE)?;
     assert_eq!(rt; log_bytes(&whole), rows.as_bytes());
-    for (limit, devices, result, log, report) in table {
-        let held = write_rows(alloc, &rows, limit, &devices)?;
-        assert_eq!(rt; held.result, result);
+    for (limit, devices, fault, log, report) in &LONG_PIECES {
+        let held = write_rows(alloc, &rows, *limit, devices)?;
+        assert_eq!(rt; held.result, ended(*fault));
         assert_eq!(rt;
             (log_bytes(&held).len(), held.out.bytes().len()),
-            (log, report)
+            (*log, *report)
         );
         assert!(rt; rows.as_bytes().starts_with(log_bytes(&held)));
         assert!(rt; whole.out.bytes().starts_with(held.out.bytes()));
@@ -338,17 +378,35 @@ impl Blocks for Ending {
     }
 }
 
+/// How many blocks come before memory ends, devices, the fault that ends the writing, and the
+/// lengths of the log and of the report.
+static ENDINGS: [(u32, Devices, WriteFault, usize, usize); 4] = [
+    (0, WHOLE, WriteFault::NoMemory, 26, 0),
+    (1_500, WHOLE, WriteFault::NoMemory, 54_026, 70_500),
+    (
+        1_500,
+        Devices { fails: 3, ..WHOLE },
+        WriteFault::Log,
+        50_210,
+        65_518,
+    ),
+    (
+        1_500,
+        Devices {
+            out_fails: 2,
+            ..WHOLE
+        },
+        WriteFault::Out,
+        54_026,
+        65_518,
+    ),
+];
+
 // What was gathered goes out, where a device doesn't fail then.
 #[test]
 fn finished_epochs_go_out_where_memory_ends(rt: HostRuntime) -> Result<(), Fail> {
     let alloc = rt.alloc();
-    let table = [
-        (0, WHOLE, WriteFault::NoMemory, 26, 0),
-        (1_500, WHOLE, WriteFault::NoMemory, 54_026, 70_500),
-        (1_500, failing_log(3), WriteFault::Log, 50_210, 65_518),
-        (1_500, failing_report(2), WriteFault::Out, 54_026, 65_518),
-    ];
-    for (left, devices, fault, log, report) in table {
+    for (left, devices, fault, log, report) in &ENDINGS {
         let rows = rows_in(alloc, &long_rows(alloc)?)?;
         let wanted = Wanted {
             rules: rows.rules,
@@ -356,13 +414,13 @@ fn finished_epochs_go_out_where_memory_ends(rt: HostRuntime) -> Result<(), Fail>
         };
         let mut blocks = Ending {
             blocks: LogBlocks::of_log(rows),
-            left,
+            left: *left,
         };
-        let held = write(alloc, &wanted, &mut blocks, 100_000, &devices)?;
-        assert_eq!(rt; held.result, Err(fault));
+        let held = write(alloc, &wanted, &mut blocks, 100_000, devices)?;
+        assert_eq!(rt; held.result, Err(*fault));
         assert_eq!(rt;
             (log_bytes(&held).len(), held.out.bytes().len()),
-            (log, report)
+            (*log, *report)
         );
     }
     Ok(())

@@ -28,6 +28,17 @@ fn no(number: u8, line: u32) -> Verdict {
     })
 }
 
+/// What is expected of a log: how many boxes are closed inside or at the edge, or the number of its
+/// first fault and the line.
+type Want = Result<u64, (u8, u32)>;
+
+fn verdict(want: Want) -> Verdict {
+    match want {
+        Ok(boxes) => yes(boxes),
+        Err((number, line)) => no(number, line),
+    }
+}
+
 /// The verdict on a log of one paved epoch, which has as many satellites as rows.
 fn judged(
     alloc: Global,
@@ -73,23 +84,58 @@ fn inside(id: u32, clock: i64, lo: i64, hi: i64) -> Step {
     Step::Inside { id, clock, lo, hi }
 }
 
+const CLOSING: Step = Step::Edge {
+    id: 0,
+    lo: -1_400_000,
+    hi: 1_400_000,
+};
+
+/// Steps of the cuboid, and what is expected of them.
+static ONE_BOX: [(&[Step], Want); 10] = [
+    (&[CLOSING], Ok(1)),
+    (
+        &[Step::Edge {
+            id: 0,
+            lo: -1_400_000,
+            hi: 1_400_001,
+        }],
+        Ok(1),
+    ),
+    (&[], Err((63, 9))),
+    (&[Step::Outside { id: 0 }], Err((58, 9))),
+    (
+        &[Step::Edge {
+            id: 0,
+            lo: -1_399_999,
+            hi: 1_400_000,
+        }],
+        Err((60, 9)),
+    ),
+    (
+        &[Step::Edge {
+            id: 0,
+            lo: -1_400_000,
+            hi: 1_399_999,
+        }],
+        Err((60, 9)),
+    ),
+    (
+        &[Step::Edge {
+            id: 1,
+            lo: 0,
+            hi: 0,
+        }],
+        Err((56, 9)),
+    ),
+    (&[Step::Split { id: 1, axis: 0 }], Err((56, 9))),
+    (&[CLOSING, CLOSING], Err((56, 10))),
+    (&[Step::Split { id: 0, axis: 0 }], Err((62, 9))),
+];
+
 #[test]
 fn judges_one_box(rt: HostRuntime) -> Result<(), Fail> {
     let rows = four_rows(FAR, up_to(500_000));
-    let closing = edge(0, -1_400_000, 1_400_000);
-    let table = [
-        (&[closing][..], yes(1)),
-        (&[edge(0, -1_400_000, 1_400_001)][..], yes(1)),
-        (&[][..], no(63, 9)),
-        (&[Step::Outside { id: 0 }][..], no(58, 9)),
-        (&[edge(0, -1_399_999, 1_400_000)][..], no(60, 9)),
-        (&[edge(0, -1_400_000, 1_399_999)][..], no(60, 9)),
-        (&[edge(1, 0, 0)][..], no(56, 9)),
-        (&[split(1)][..], no(56, 9)),
-        (&[closing, closing][..], no(56, 10)),
-        (&[split(0)][..], no(62, 9)),
-    ];
-    for (steps, want) in table {
+    for &(steps, want) in &ONE_BOX {
         assert!(rt; steps.len() <= 64);
         let found = judged(
             rt.alloc(),
@@ -99,10 +145,18 @@ fn judges_one_box(rt: HostRuntime) -> Result<(), Fail> {
             steps,
             0,
         )?;
-        assert_eq!(rt; found, want);
+        assert_eq!(rt; found, verdict(want));
     }
     Ok(())
 }
+
+/// How many splits are allowed and the width, how many are told, and what is expected.
+static HALVES: [(u32, i64, u32, Want); 4] = [
+    (1, 1_000_000, 1, Ok(2)),
+    (0, 1_000_000, 1, Err((62, 9))),
+    (1, 3_000_000, 1, Err((61, 9))),
+    (1, 1_000_000, 2, Err((64, 12))),
+];
 
 #[test]
 fn judges_two_halves(rt: HostRuntime) -> Result<(), Fail> {
@@ -112,15 +166,13 @@ fn judges_two_halves(rt: HostRuntime) -> Result<(), Fail> {
         edge(1, -1_400_000, 500_000),
         edge(2, -499_999, 1_400_000),
     ];
-    let table = [
-        (rules(0, 1, 1_000_000), 1, yes(2)),
-        (rules(0, 0, 1_000_000), 1, no(62, 9)),
-        (rules(0, 1, 3_000_000), 1, no(61, 9)),
-        (rules(0, 1, 1_000_000), 2, no(64, 12)),
-    ];
-    for (rules, done, want) in table {
+    for &(splits, width, done, want) in &HALVES {
+        assert!(rt; splits <= 1);
+        assert!(rt; 1_000_000 <= width);
+        assert!(rt; width <= 3_000_000);
+        let rules = rules(0, splits, width);
         let found = judged(rt.alloc(), rules, &rows, cuboid(), &steps, done)?;
-        assert_eq!(rt; found, want);
+        assert_eq!(rt; found, verdict(want));
     }
     Ok(())
 }
@@ -174,12 +226,14 @@ fn judges_unsure_rows(rt: HostRuntime) -> Result<(), Fail> {
     Ok(())
 }
 
+static CLOCKS: [(i64, Want); 2] = [(0, Ok(1)), (1, Err((59, 10)))];
+
 /// One of five satellites may be inconsistent. All but the first fit everywhere at clock offset 0,
 /// and at 1 only three of them.
 #[test]
 fn judges_an_inner_box(rt: HostRuntime) -> Result<(), Fail> {
     let rows = five_rows(up_to(1_000_000));
-    for (clock, want) in [(0, yes(1)), (1, no(59, 10))] {
+    for &(clock, want) in &CLOCKS {
         let steps = [inside(0, clock, -1_900_000, 1_900_000)];
         let found = judged(
             rt.alloc(),
@@ -189,10 +243,19 @@ fn judges_an_inner_box(rt: HostRuntime) -> Result<(), Fail> {
             &steps,
             0,
         )?;
-        assert_eq!(rt; found, want);
+        assert_eq!(rt; found, verdict(want));
     }
     Ok(())
 }
+
+/// A cut of a box at its low face on x, and what is expected.
+static LOW_CUTS: [(u32, i64, Want); 5] = [
+    (0, -6_000_000, Ok(1)),
+    (0, -4_000_000, Err((57, 9))),
+    (0, -8_000_000, Err((57, 9))),
+    (0, 8_000_001, Err((57, 9))),
+    (1, -6_000_000, Err((56, 9))),
+];
 
 /// Two satellites on either side of a long box leave nothing beyond 6 m, and 6.25 m, of its middle.
 #[test]
@@ -225,17 +288,10 @@ fn judges_cuts(rt: HostRuntime) -> Result<(), Fail> {
     };
     let high = cut_of(0, 1, 6_250_000);
     let closing = edge(0, -11_000_000, 11_000_000);
-    let table = [
-        (cut_of(0, 0, -6_000_000), yes(1)),
-        (cut_of(0, 0, -4_000_000), no(57, 9)),
-        (cut_of(0, 0, -8_000_000), no(57, 9)),
-        (cut_of(0, 0, 8_000_001), no(57, 9)),
-        (cut_of(1, 0, -6_000_000), no(56, 9)),
-    ];
-    for (low, want) in table {
-        let steps = [low, high, closing];
+    for &(id, bound, want) in &LOW_CUTS {
+        let steps = [cut_of(id, 0, bound), high, closing];
         let found = judged(rt.alloc(), rules(0, 0, 1_000_000), &rows, long, &steps, 0)?;
-        assert_eq!(rt; found, want);
+        assert_eq!(rt; found, verdict(want));
     }
     Ok(())
 }
