@@ -9,7 +9,7 @@ import pytest
 
 import report
 import tables
-from epoch_table import ROW_HEAD, epoch_lines
+from epoch_table import ROW_HEAD, Piece, epoch_lines, handed_on
 from files import write_json
 from gpscover.integrity import Limits
 from made_logs import HEAD, LOST, PAVED, TUBE, WITHIN
@@ -31,11 +31,14 @@ def as_asked(request):
         pytest.skip("tests on a Slurm are run alone")
 
 
-def lines_of(room, text, is_track=False, place=None, limits=None):
+DAY = "2024-01-01"
+
+
+def lines_of(room, text, is_track=False, place=None, limits=None, began=None, search=None):
     """The lines of the table of a log's text."""
     path = room / "made.log"
     path.write_text(HEAD + text, newline="\n")
-    return list(epoch_lines(path, is_track, place, limits))
+    return list(epoch_lines(path, Piece(DAY, began) if is_track else None, place, limits, search))
 
 
 def values_of(lines, *names):
@@ -48,8 +51,8 @@ class TestEpochs:
         # Behind the lost one a log goes on, where the settings have it so: with one that is few, and one in the first
         # search box.
         again = WITHIN.replace("epoch 1 895816769", "epoch 5 895816779")
-        told = values_of(lines_of(room, TUBE + LOST + FEW + again, True), "epoch", "mark", "piece")
-        assert told == [(1, "ok", 1), (2, "ok", 1), (3, "lost", 1), (4, "few", 2), (5, "ok", 2)]
+        told = values_of(lines_of(room, TUBE + LOST + FEW + again, True), "epoch", "mark", "piece", "began_epoch")
+        assert told == [(1, "ok", 1, 1), (2, "ok", 1, 1), (3, "lost", 1, 1), (4, "few", 2, 4), (5, "ok", 2, 4)]
         # A track that is lost in its first epoch has nothing by which the log alone would tell it from one of solve.
         empty = PAVED.split("split", 1)[0] + "out 0\ndone 0\n"
         assert values_of(lines_of(room, empty, True), "mark", "piece") == [("lost", 1)]
@@ -74,7 +77,7 @@ class TestEpochs:
 
     def test_suspects_and_certified_bounds_are_those_of_the_log(self):
         path = ROOT / "examples/renewed-rows.log"
-        assert set(values_of(epoch_lines(path, False, None, None), "certified", "suspects")) <= {(0, "")}
+        assert set(values_of(epoch_lines(path, None, None, None), "certified", "suspects")) <= {(0, "")}
 
 
 class TestPage:

@@ -10,6 +10,7 @@ from dataclasses import dataclass, field, fields
 from pathlib import Path
 from typing import Any
 
+from gpscover.epoch import UM_PER_MM, Box
 from gpscover.errors import Error
 from gpscover.log import PathLike
 
@@ -93,6 +94,15 @@ class Settings:
     station: Station | None = None
     restart: bool = False
 
+    def search_box(self) -> Box | None:
+        """The search box in um, or None where its middle is the position in the receiver's header."""
+        centre, half = self.search.centre, self.search.half
+        if isinstance(centre, str):
+            return None
+        x, y, z = (UM_PER_MM * at for at in centre)
+        a, b, c = (UM_PER_MM * side for side in ((half, half, half) if isinstance(half, int) else half))
+        return Box(x - a, y - b, z - c, x + a, y + b, z + c)
+
     def to_toml(self) -> str:
         """The text of a file of settings."""
         tables = {"search": keys_of(self.search), "signal": keys_of(self.signal)}
@@ -127,6 +137,11 @@ class Settings:
             return cls.from_toml(Path(path).read_text(encoding="utf-8"))
         except (SettingsError, UnicodeDecodeError) as error:
             raise SettingsError(f"{path}: {error}") from None
+
+
+def search_of(path: PathLike | None) -> Box | None:
+    """The search box of a file of settings; None where no file is named, or its middle is a header's."""
+    return None if path is None else Settings.read(path).search_box()
 
 
 def toml() -> Any:
