@@ -55,7 +55,9 @@ def after_words(part, files, args, room):
     folders = [folder for folder in (args.logs, args.earlier) if folder]
     found = [path for path in (Path(folder, part[0], f"{behind}.log.zst") for folder in folders) if path.exists()]
     if not found:
-        raise StepError(f"the log of {behind}, from which it goes on, isn't there: --earlier names the logs of another run")
+        raise StepError(
+            f"the log of {behind}, from which it goes on, isn't there: --earlier names the logs of another run"
+        )
     unpacked(found[0], f"{room}/after")
     expect(f"{room}/after", wanted, f"the log of {behind}, from which it goes on,")
     return ["--after", f"{room}/after"]
@@ -94,7 +96,17 @@ def verdict_of(part, files, args, room):
         expect(path, files[role][1], f"{role} ({path})" if role == "settings" else role)
     after = after_words(part, files, args, room)
     track = ["--track"] if files["log"][3] == "track" else []
-    words = [sys.executable, ROOT / "second/recheck.py", *track, obs, nav, settings, log, *files["log"][0].split(), *after]
+    words = [
+        sys.executable,
+        ROOT / "second/recheck.py",
+        *track,
+        obs,
+        nav,
+        settings,
+        log,
+        *files["log"][0].split(),
+        *after,
+    ]
     for name, *_ in beside:
         unpack_one(name, f"{room}/station")
         expect(f"{room}/station", files["station"][1], "station")

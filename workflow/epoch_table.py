@@ -2,8 +2,8 @@
 
 piece      of a track: the number of the piece that the epoch is in. A piece begins with the part, and behind each epoch
            in which the track was lost; where the settings don't have it go on, it ends there, and so does the log.
-began ..   of a track: the day and the epoch with which that piece began; in a chain of days it may have been an earlier day.
-           What is said of an epoch stands on what is declared of all epochs from there on
+began ..   of a track: the day and the epoch with which that piece began, which in a chain of days may be an earlier day.
+           What is said of an epoch stands on what is declared of all epochs from there on.
 held ..    as `gpslog summary --places --limit` has them. Without a known place how far the region reaches from its
            middle, and whether that is within the limits, alone.
 certified  1 where lengths are those of certified bounds
@@ -26,8 +26,8 @@ ROW_HEAD = ["station", "day", "part", *COLUMNS, *PIECE, *KNOWN, "certified", "su
 
 
 class Piece:
-    """The piece of a track that an epoch of a day is in. `began` is the day and the epoch with which the first one began,
-    where the part before hands it on."""
+    """The piece of a track that an epoch of a day is in. `began` is the day and the epoch with which the first one
+    began, where the part before hands it on."""
 
     def __init__(self, day, began=None):
         self.day, self.number, self.began = day, 1, began
@@ -42,8 +42,8 @@ class Piece:
 
 
 def handed_on(path):
-    """What a part hands on, by its table: the day and the epoch with which the piece of its last paved epoch began, or None
-    where that epoch keeps no box, or none is paved."""
+    """What a part hands on, by its table: the day and the epoch with which the piece of its last paved epoch began, or
+    None where that epoch keeps no box, or none is paved."""
     with open(path, encoding="utf-8", newline="") as file:
         paved = [row for row in csv.DictReader(file) if row["mark"] != "few"]
     if not paved or paved[-1]["mark"] == "lost":
@@ -61,8 +61,8 @@ def known_values(epoch, region, place, limits):
 
 
 def epoch_lines(path, piece, place, limits, search=None):
-    """The values of each epoch of a log, in the order of ROW_HEAD from the epoch on. `piece` is the first one of a track, or
-    None; `search` the search box in um where the log may begin in a smaller one."""
+    """The values of each epoch of a log, in the order of ROW_HEAD from the epoch on. `piece` is the first one of a
+    track, or None; `search` the search box in um where the log may begin in a smaller one."""
     for epoch in epochs(path, search):
         region = region_or_none(epoch)
         mark = mark_of(epoch, region)

@@ -233,8 +233,8 @@ class Network:
         return [pair for pair in wanted if pair not in self.worked]
 
     def options(self, station, day, part):
-        """The options of `solve` and `check` for a part. The last part has no end, so that no epoch is left out. In a chain
-        there is the part from which it goes on too, for steps.py."""
+        """The options of `solve` and `check` for a part. The last part has no end, so that no epoch is left out. Of a
+        part of a chain steps.py is told too from which one it goes on."""
         first = (part - 1) * self.part + 1
         last = "" if part == self.parts[-1] else f" --to {part * self.part}"
         link = self.link(station, day, part)
@@ -242,8 +242,8 @@ class Network:
         return f"--from {first}{last}{behind if self.stations[station].chain else ''}"
 
     def link(self, station, day, part):
-        """The part from whose log a part goes on: its folder of results, its day and its number. None where the station's
-        days are no chain, or one begins here: the day before has no log."""
+        """The part from whose log a part goes on: its folder of results, its day and its number. None where the
+        station's days are no chain, or one begins here, as the day before isn't worked on."""
         if not self.stations[station].chain:
             return None
         if part > 1:
@@ -260,7 +260,7 @@ class Network:
         return [form.format(out=link[0], station=station, day=link[1], part=link[2])] if link else []
 
     def waiting(self):
-        """A line for each part that isn't done, with how many parts that go on from it, one behind the other, wait."""
+        """A line for each part for which others wait that go on from it, one behind the other."""
         counts = Counter(self.waits())
         for part, count in counts.items():
             yield f"{told(*part)}: {count} part{'s' * (count > 1)} behind it in the chain wait{'s' * (count == 1)} for it"

@@ -29,7 +29,7 @@ from epoch_table import ROW_HEAD, Piece, epoch_lines, handed_on
 from gpscover.errors import Error
 from gpscover.integrity import Limits
 from gpscover.log import Box
-from gpscover.observations import absent_codes
+from gpscover.observations import absent_codes, search_of
 from gpscover.settings import Settings, toml
 from files import StepError, digest, last_line, read_json, run, settle, unpack_all, unpack_one, unpacked, write_json
 from network import BEHIND, COSTS, told
@@ -139,8 +139,8 @@ def command_words(args, room):
     """The two commands of a part, with the words that both have behind the files: `track` and `retrack` where the day's
     settings say how fast the receiver moves at most, else `solve` and `check`.
 
-    What ties a part to another one stands here alone: in a chain it goes on from the log of the part before, and else each
-    part is searched from the settings' search box on.
+    What ties a part to another one stands here alone: in a chain it goes on from the log of the part before, and else
+    each part is searched from the settings' search box on.
     """
     with contextlib.suppress(ValueError):  # settings that can't be read are refused by the program, which says why
         if "motion" in toml().loads(Path(args.file["settings"]).read_text(encoding="utf-8")):
@@ -153,8 +153,6 @@ def command_words(args, room):
 def after_words(args, room):
     """The words that name the log of the part before, where there is one. It has to be the one that was checked."""
     zst, said = args.file.get("before"), args.file.get("said")
-    if args.behind and chain_box(args) is None:
-        raise StepError("chain: the settings' search.centre has to be a place, as $centre is")
     if not zst:
         return []
     try:
@@ -167,9 +165,9 @@ def after_words(args, room):
 
 
 def chain_box(args):
-    """The search box of a day's settings in um, or None where they don't say it, or can't be read."""
+    """The search box of a part's settings in um, which a log that goes on from another one doesn't say; or None."""
     with contextlib.suppress(Error):
-        return Settings.read(args.file["settings"]).search_box()
+        return search_of(args.file["settings"], args.file["obs"])
     return None
 
 
@@ -260,9 +258,11 @@ def rows(args, room):
         table = csv.writer(file, lineterminator="\n")
         table.writerow(ROW_HEAD)
         head, is_track = [args.station, args.day, args.part], verdict["command"] == "track"
-        piece = Piece(args.day, handed_on(args.file["before"]) if args.file.get("before") else None) if is_track else None
-        search = Box(*verdict["chain"]["search"]) if "chain" in verdict else None
-        for values in epoch_lines(f"{room}/log", piece, place, limits and Limits(*limits), search):
+        piece = (
+            Piece(args.day, handed_on(args.file["before"]) if args.file.get("before") else None) if is_track else None
+        )
+        search = verdict.get("chain", {}).get("search")
+        for values in epoch_lines(f"{room}/log", piece, place, limits and Limits(*limits), search and Box(*search)):
             table.writerow(head + values)
     settle(f"{room}/csv", args.file["csv"])
 

@@ -15,7 +15,9 @@ import sqlite3
 from epoch_table import ROW_HEAD
 from files import StepError, read_json
 
-WHOLE = set("part epoch satellites in edge out splits piece began_epoch held available misleading hazardous certified".split())
+WHOLE = set(
+    "part epoch satellites in edge out splits piece began_epoch held available misleading hazardous certified".split()
+)
 SAID = {"station", "day", "gps_time", "mark", "faces", "suspects"}  # of each epoch, and may be empty
 TEXT = SAID | {"began_day"}
 FILES = "station day part role name bytes sha256 verdict program commit_id command".split()
@@ -64,7 +66,8 @@ def file_rows(value):
 
 
 def refuse_other_log(value, sums):
-    """A part that goes on from another one of the run has to have been given its checked log. `sums` has those before."""
+    """A part that goes on from another one of the run has to have been given its checked log. `sums` has those before
+    it."""
     after, station = value["files"].get("after"), value["station"]
     sums[f"{station}/{value['day']}/{value['part']}"] = value["files"]["log"]["sha256"]
     if after is not None:

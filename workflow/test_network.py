@@ -1,7 +1,6 @@
 """Tests of what a network knows: tracks and their pieces, known places, limits, suspects, the page, and the template."""
 import re
 import shutil
-import sqlite3
 import subprocess
 from argparse import Namespace
 
@@ -142,15 +141,8 @@ class TestRuns:
     @pytest.fixture(autouse=True)
     def room_of_two_stations(self, program, request):
         self.network = Room(program)
+        self.select = self.network.select
         request.addfinalizer(self.network.remove)
-
-    def select(self, words):
-        """What the database has."""
-        base = sqlite3.connect(self.network.out / "network.sqlite")
-        try:
-            return base.execute(words).fetchall()
-        finally:
-            base.close()
 
     def test_a_track_that_is_lost_and_a_page_a_day(self):
         pytest.importorskip("plotly")
@@ -171,8 +163,7 @@ class TestRuns:
             assert f'<a href="pages/{name}.html">' in page
             text = (self.network.out / f"pages/{name}.html").read_text()
             assert f"<title>{name.replace('/', ' ')}</title>" in text
-        words = ["python3", HERE / "audit.py", "out/network.sqlite", "out/logs"]
-        assert subprocess.run(words, cwd=self.network.path, capture_output=True, text=True).stdout.count(": yes ") == 2
+        assert self.network.audit()[1].count(": yes ") == 2
 
     def test_a_code_that_a_file_lacks_is_named(self):
         config = self.network.configuration()

@@ -2,8 +2,11 @@
 
 from __future__ import annotations
 
-from gpscover.log import PathLike
-from gpscover.settings import Settings
+from fractions import Fraction
+
+from gpscover.errors import Error
+from gpscover.log import UM_PER_M, Box, PathLike
+from gpscover.settings import Settings, Three
 
 SYSTEMS = {"G": "GPS", "E": "Galileo"}
 
@@ -37,6 +40,30 @@ def types_of(path: PathLike) -> dict[str, list[str]]:
             elif label == "END OF HEADER":
                 break
     return types
+
+
+def header_position(path: PathLike) -> Three | None:
+    """The position in the header of a file, in um; None where it has none."""
+    with open(path, encoding="ascii", errors="replace") as file:
+        for line in file:
+            label = line[60:].strip()
+            if label == "APPROX POSITION XYZ":
+                x, y, z = (round(UM_PER_M * Fraction(line[k : k + 14].strip() or 0)) for k in (0, 14, 28))
+                return x, y, z
+            if label == "END OF HEADER":
+                break
+    return None
+
+
+def search_of(settings: PathLike, obs: PathLike | None) -> Box:
+    """The search box of a file of settings, whose middle may be the position in the header of a file of observations."""
+    try:
+        box = Settings.read(settings).search_box(None if obs is None else header_position(obs))
+    except ValueError:
+        raise Error(f"{obs}: this isn't a file of observations") from None
+    if box is None:
+        raise Error(f"{settings}: the middle of the search box is in a header: --obs names its file")
+    return box
 
 
 def absent_codes(path: PathLike, settings: Settings) -> list[str]:

@@ -408,7 +408,9 @@ def arguments(parser: argparse.ArgumentParser) -> None:
     """The words of the command line."""
     parser.add_argument("log", metavar="LOG", nargs="+", help="a log, or the logs of a file's parts in their order")
     parser.add_argument("out", metavar="OUT.html", type=name_ending(".html", ".htm", told=".html"))
-    parser.add_argument("--settings", metavar="FILE", help="the settings of the run, to be shown and for the search box")
+    parser.add_argument(
+        "--settings", metavar="FILE", help="the settings of the run, to be shown and for the search box"
+    )
     parser.add_argument("--places", metavar="FILE", help="a list of known places")
     limit_argument(parser)
     zone_arguments(parser, required=False)

@@ -94,12 +94,13 @@ class Settings:
     station: Station | None = None
     restart: bool = False
 
-    def search_box(self) -> Box | None:
-        """The search box in um, or None where its middle is the position in the receiver's header."""
+    def search_box(self, header: Three | None = None) -> Box | None:
+        """The search box in um. `header` is the position in um in the receiver's header; None where that is needed."""
         centre, half = self.search.centre, self.search.half
-        if isinstance(centre, str):
+        middle = header if isinstance(centre, str) else [UM_PER_MM * at for at in centre]
+        if middle is None:
             return None
-        x, y, z = (UM_PER_MM * at for at in centre)
+        x, y, z = middle
         a, b, c = (UM_PER_MM * side for side in ((half, half, half) if isinstance(half, int) else half))
         return Box(x - a, y - b, z - c, x + a, y + b, z + c)
 
@@ -137,11 +138,6 @@ class Settings:
             return cls.from_toml(Path(path).read_text(encoding="utf-8"))
         except (SettingsError, UnicodeDecodeError) as error:
             raise SettingsError(f"{path}: {error}") from None
-
-
-def search_of(path: PathLike | None) -> Box | None:
-    """The search box of a file of settings; None where no file is named, or its middle is a header's."""
-    return None if path is None else Settings.read(path).search_box()
 
 
 def toml() -> Any:

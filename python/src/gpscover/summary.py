@@ -61,10 +61,9 @@ from gpscover.errors import Error, UsageError
 from gpscover.geodesy import geodetic
 from gpscover.integrity import Judge, Limits, Numbers, limit_argument
 from gpscover.log import PS_PER_MS, UM_PER_M, Box, Epoch, PathLike, SkipReason, calendar, epochs, has_bounds
-from gpscover.observations import file_epochs
+from gpscover.observations import file_epochs, search_of
 from gpscover.places import Meetings, read_places
 from gpscover.region import Region, hull_of, region_or_none, upward
-from gpscover.settings import search_of
 
 Cell = str | int
 WriteLine = Callable[[Epoch, Region | None, str, Numbers | None], None]
@@ -403,6 +402,11 @@ def judge_of(args: argparse.Namespace) -> Judge | None:
     return Judge(Meetings.of(args.places), azimuth, track, limits)
 
 
+def searched_in(args: argparse.Namespace) -> Box | None:
+    """The search box of the settings that the words name, or None."""
+    return None if args.settings is None else search_of(args.settings, args.obs)
+
+
 def print_text(args: argparse.Namespace, outlines: TextIO | None, judge: Judge | None) -> Totals:
     """Prints the lines and what is to be said of all epochs. The warnings."""
     print(HEAD + (place_head(judge) if judge else ""))
@@ -410,7 +414,7 @@ def print_text(args: argparse.Namespace, outlines: TextIO | None, judge: Judge |
     def write(epoch: Epoch, region: Region | None, mark: str, found: Numbers | None) -> None:
         print(text_line(epoch, region, mark, place_text(judge, found) if judge else ""))
 
-    totals = summarize(args.log, write, outlines, judge, search_of(args.settings))
+    totals = summarize(args.log, write, outlines, judge, searched_in(args))
     print(totals.line())
     if args.obs is not None:
         print(totals.covered(args.obs))
@@ -434,12 +438,12 @@ def csv_writer(file: TextIO, log: PathLike, judge: Judge | None = None) -> Write
 def print_csv(args: argparse.Namespace, outlines: TextIO | None, judge: Judge | None) -> Totals:
     """Prints the values of all epochs."""
     write = csv_writer(sys.stdout, args.log, judge)
-    return summarize(args.log, write, outlines, judge, search_of(args.settings))
+    return summarize(args.log, write, outlines, judge, searched_in(args))
 
 
 def print_box(args: argparse.Namespace, outlines: TextIO | None, judge: Judge | None) -> Totals:
     """Prints the box round all kept boxes."""
-    totals = summarize(args.log, lambda *of_epoch: None, outlines, judge, search_of(args.settings))
+    totals = summarize(args.log, lambda *of_epoch: None, outlines, judge, searched_in(args))
     print(*totals.box_lines(), sep="\n")
     if max(totals.box()[1]) > MOST_HALF_MM:
         print("warning: half is more than the 100 km that settings allow", file=sys.stderr)
