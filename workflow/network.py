@@ -32,6 +32,8 @@ COSTS = {
     "database": (60, 500),
     "page": (60, 1000),
 }
+# A part of a chain has the log of the part before judged, which wants the memory of `check`.
+CHAIN_COSTS = {"solve": (30, COSTS["check"][1])}
 
 
 class ConfigError(Exception):
@@ -163,7 +165,8 @@ class Network:
         self.earlier = str(config.get("earlier") or "")
         self.has_pages = one_of(config, "pages", (False, True))
         self.limits = limits_of(config.get("limits"))
-        self.costs = {**COSTS, **(config.get("costs") or {})}
+        is_chain = any(station.chain for station in self.stations.values())
+        self.costs = {**COSTS, **(CHAIN_COSTS if is_chain else {}), **(config.get("costs") or {})}
         self.parts = range(1, -(-self.epochs // self.part) + 1)
         for name, station in self.stations.items():
             if station.beside and (station.beside not in self.stations or station.beside == name):

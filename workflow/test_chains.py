@@ -77,7 +77,13 @@ class TestLinks:
             (room / f"verdicts/ALFA/2008-05-26/{part}.json").touch()
         assert next(network.waiting()) == "ALFA 2008-05-27 part 1: 1 part behind it in the chain waits for it"
 
-    def test_a_chain_wants_its_logs(self):
+    def test_a_chain_wants_its_logs_and_memory_for_the_log_before(self):
+        alone = CONFIG | {"chain": False}
+        assert [Network(it).costs["solve"][1] for it in (alone, CONFIG, CONFIG | {"costs": {"solve": [9, 99]}})] == [
+            500,
+            1500,
+            99,
+        ]
         with pytest.raises(ConfigError, match="ALFA: chain: each day wants the log of the one before"):
             Network(CONFIG | {"keep": "checksum"})
 
