@@ -55,7 +55,7 @@ def test_the_example_s():
     x, y, z = -3869309827800, 3436565477600, 3717365893700
     ends = [part + sign * 10**9 for sign in (-1, 1) for part in (x, y, z)]
     assert list(search_of(EXAMPLES / "settings.toml", EXAMPLES / "receiver.obs")) == ends
-    with pytest.raises(Error, match="the middle of the search box is in a header: --obs names its file"):
+    with pytest.raises(Error, match="the middle of the search box is in the header of a file, which --obs names"):
         search_of(EXAMPLES / "settings.toml", None)
     own = Settings(Search((1, 2, 3), 1, 8, (10, -20, 30)), settings.signal, settings.bounds)
     assert own.search_box() == (9000, -22000, 27000, 11000, -18000, 33000)

@@ -2,12 +2,14 @@
 
 from __future__ import annotations
 
+import re
 from fractions import Fraction
 
 from gpscover.errors import Error
 from gpscover.log import UM_PER_M, Box, PathLike
 from gpscover.settings import Settings, Three
 
+COORDINATE = re.compile(r"[+-]?[0-9]{1,8}\.[0-9]{1,4}", re.ASCII)  # of a position, in m
 SYSTEMS = {"G": "GPS", "E": "Galileo"}
 
 
@@ -48,7 +50,10 @@ def header_position(path: PathLike) -> Three | None:
         for line in file:
             label = line[60:].strip()
             if label == "APPROX POSITION XYZ":
-                x, y, z = (round(UM_PER_M * Fraction(line[k : k + 14].strip() or 0)) for k in (0, 14, 28))
+                words = [line[k : k + 14].strip() for k in (0, 14, 28)]
+                if not all(map(COORDINATE.fullmatch, words)):
+                    return None
+                x, y, z = (round(UM_PER_M * Fraction(word)) for word in words)
                 return x, y, z
             if label == "END OF HEADER":
                 break
@@ -57,12 +62,9 @@ def header_position(path: PathLike) -> Three | None:
 
 def search_of(settings: PathLike, obs: PathLike | None) -> Box:
     """The search box of a file of settings, whose middle may be the position in the header of a file of observations."""
-    try:
-        box = Settings.read(settings).search_box(None if obs is None else header_position(obs))
-    except ValueError:
-        raise Error(f"{obs}: this isn't a file of observations") from None
+    box = Settings.read(settings).search_box(None if obs is None else header_position(obs))
     if box is None:
-        raise Error(f"{settings}: the middle of the search box is in a header: --obs names its file")
+        raise Error(f"{settings}: the middle of the search box is in the header of a file, which --obs names")
     return box
 
 

@@ -95,14 +95,17 @@ class Settings:
     restart: bool = False
 
     def search_box(self, header: Three | None = None) -> Box | None:
-        """The search box in um. `header` is the position in um in the receiver's header; None where that is needed."""
+        """The search box in um. `header` is the position in um in the receiver's header; None where that is needed.
+        SettingsError where the settings have no such box."""
         centre, half = self.search.centre, self.search.half
-        middle = header if isinstance(centre, str) else [UM_PER_MM * at for at in centre]
+        try:
+            middle = header if isinstance(centre, str) else three_um(centre)
+            sides = three_um(half)
+        except (TypeError, ValueError):
+            raise SettingsError("these are no settings: the search box has no three middles and half sides") from None
         if middle is None:
             return None
-        x, y, z = middle
-        a, b, c = (UM_PER_MM * side for side in ((half, half, half) if isinstance(half, int) else half))
-        return Box(x - a, y - b, z - c, x + a, y + b, z + c)
+        return Box(*(at - side for at, side in zip(middle, sides)), *(at + side for at, side in zip(middle, sides)))
 
     def to_toml(self) -> str:
         """The text of a file of settings."""
@@ -190,6 +193,12 @@ def frozen(value: Any) -> Any:
     if isinstance(value, list):
         return tuple(map(member, value))
     return value if isinstance(value, (str, bool)) else whole(value)
+
+
+def three_um(value: Any) -> Three:
+    """Three lengths in mm, or one for all three, in um."""
+    x, y, z = (value, value, value) if isinstance(value, int) else value
+    return UM_PER_MM * whole(x), UM_PER_MM * whole(y), UM_PER_MM * whole(z)
 
 
 def pair(value: Any) -> Pair:
