@@ -68,8 +68,9 @@ def behind_of(base, part, files):
     if "after" not in files:
         return ""
     behind, wanted, *_ = files["after"]
+    day, number = behind.split("/")
     words = "SELECT sha256 FROM files WHERE role = 'log' AND station = ? AND day = ? AND part = ?"
-    for (own,) in base.execute(words, (part[0], *behind.split("/"))):
+    for (own,) in base.execute(words, (part[0], day, int(number))):
         if own != wanted:
             raise StepError(f"it goes on from a log that isn't the one of {behind}")
     return f" behind {behind}"

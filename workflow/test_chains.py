@@ -1,11 +1,15 @@
 """Tests of chains: parts that go on from the log of the part before, their tables, and the audit of a whole chain."""
 import json
 import shutil
+import sqlite3
+import subprocess
+from argparse import Namespace
 
 import pytest
 
+import audit
 from epoch_table import ROW_HEAD, Piece, handed_on
-from files import StepError, unpacked
+from files import StepError, digest, unpacked
 from gpscover.log import Box, epochs
 from network import ConfigError, Network
 from rooms import ChainRoom
@@ -128,6 +132,38 @@ class TestTables:
         refuse_other_log(verdict("2008-05-27", "b", "a"), sums)
         with pytest.raises(StepError, match="ALFA 2008-05-27 part 1: it goes on from a log that isn't the one of"):
             refuse_other_log(verdict("2008-05-27", "b", "c"), sums)
+
+
+class TestAudit:
+    PART = ("ALFA", "2024-02-01", 1)
+
+    @pytest.mark.skipif(not shutil.which("zstd"), reason="zstd isn't there")
+    def test_the_log_of_an_earlier_run_is_found_there(self, room):
+        log = room / "january/ALFA/2024-01-31/1.log.zst"
+        log.parent.mkdir(parents=True)
+        (room / "log").write_text("gpscover 1\n")
+        subprocess.run(["zstd", "-q", room / "log", "-o", log], check=True)
+        files = {"after": ["2024-01-31/1", digest(room / "log")["sha256"], "", ""]}
+        args = Namespace(logs=str(room / "february"), earlier=None)
+        with pytest.raises(StepError, match="the log of 2024-01-31/1, from which it goes on, isn't there: --earlier"):
+            audit.after_words(self.PART, files, args, str(room))
+        args.earlier = str(room / "january")
+        assert audit.after_words(self.PART, files, args, str(room)) == ["--after", f"{room}/after"]
+        assert (room / "after").read_text() == "gpscover 1\n"
+        files["after"][1] = "0"
+        with pytest.raises(StepError, match="the log of 2024-01-31/1, from which it goes on, has another checksum"):
+            audit.after_words(self.PART, files, args, str(room))
+        assert audit.after_words(self.PART, {}, args, str(room)) == []
+
+    def test_a_link_has_to_be_the_log_of_the_part_before(self):
+        base = sqlite3.connect(":memory:")
+        base.execute("CREATE TABLE files (station, day, part, role, sha256)")
+        files = {"after": ["2024-01-31/1", "a", "", ""]}
+        assert audit.behind_of(base, self.PART, {}) == ""
+        assert audit.behind_of(base, self.PART, files) == " behind 2024-01-31/1"  # of an earlier run
+        base.execute("INSERT INTO files VALUES ('ALFA', '2024-01-31', 1, 'log', 'b')")
+        with pytest.raises(StepError, match="it goes on from a log that isn't the one of 2024-01-31/1"):
+            audit.behind_of(base, self.PART, files)
 
 
 @pytest.mark.skipif(not (shutil.which("snakemake") and shutil.which("zstd")), reason="snakemake or zstd isn't there")
