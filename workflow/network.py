@@ -5,14 +5,19 @@ Names of files in it are patterns, which Python's `str.format` fills: `{station}
 `{before}` and `{after}` in any form of `strftime`, as `{day:%Y%j}`.
 """
 import datetime
+import functools
 import os
 import re
+from collections import Counter
 from dataclasses import dataclass
+from pathlib import Path
 
 STATION = "[A-Za-z0-9_]+"
 DAY = r"\d{4}-\d{2}-\d{2}"
 PART = r"\d+"
 MOST_EPOCHS = 200_000  # of a file
+BEHIND, NOTHING = "--behind", "none"  # of what the steps are told of a chain
+VERDICT = "{out}/verdicts/{station}/{day}/{part}.json"  # of the part from which another goes on
 # How many minutes and MB a job of each step may take, where the configuration's `costs` says nothing else. By
 # docs/MEASURED.md a run on an observation file of 60 MB takes 135 MB, and `check` of a log of 251 MB 498 MB.
 COSTS = {
@@ -27,6 +32,8 @@ COSTS = {
     "database": (60, 500),
     "page": (60, 1000),
 }
+# A part of a chain has the log of the part before judged, which wants the memory of `check`.
+CHAIN_COSTS = {"solve": (30, COSTS["check"][1])}
 
 
 class ConfigError(Exception):
@@ -46,6 +53,8 @@ class Station:
     bounds: str  # words of `gpslog bounds` behind the place, or an empty text
     beside: str  # which other one is its station, for rows of differences, or an empty text
     known: tuple  # x, y, z in mm of where it is known to stand, or None
+    without: tuple  # those of the days that are left out
+    chain: bool  # whether each part goes on from the log of the part before
 
 
 def date_of(value, key):
@@ -134,6 +143,8 @@ def station_of(name, own, common):
         value.get("bounds", ""),
         value.get("beside", ""),
         known_of(value.get("known"), place, f"{name}: known"),
+        days_of(value["without"], f"{name}: without") if value.get("without") else (),
+        one_of(value, "chain", (False, True)),
     )
 
 
@@ -151,15 +162,19 @@ class Network:
         self.part = min(count_of(config, "part", MOST_EPOCHS), self.epochs)
         self.keeps_log = one_of(config, "keep", ("log", "checksum")) == "log"
         self.leaves_absent = one_of(config, "absent", ("fail", "leave")) == "leave"
+        self.earlier = str(config.get("earlier") or "")
         self.has_pages = one_of(config, "pages", (False, True))
         self.limits = limits_of(config.get("limits"))
-        self.costs = {**COSTS, **(config.get("costs") or {})}
+        is_chain = any(station.chain for station in self.stations.values())
+        self.costs = {**COSTS, **(CHAIN_COSTS if is_chain else {}), **(config.get("costs") or {})}
         self.parts = range(1, -(-self.epochs // self.part) + 1)
         for name, station in self.stations.items():
             if station.beside and (station.beside not in self.stations or station.beside == name):
                 raise ConfigError(f"{name}: beside: {station.beside!r} is no other station")
             if station.beside and station.bounds:
                 raise ConfigError(f"{name}: bounds: those of differences stand in the settings")
+            if station.chain and not self.keeps_log:
+                raise ConfigError(f"{name}: chain: each day wants the log of the one before, so keep: log is needed")
             for pattern in (station.observations, *station.navigation, station.settings):
                 self.named(pattern, name, f"{station.days[0]}")
 
@@ -206,20 +221,63 @@ class Network:
     def station_days(self):
         """The pairs of station and day that are worked on."""
         for station in self.stations.values():
-            for day in station.days:
+            for day in (day for day in station.days if day not in station.without):
                 if not self.leaves_absent or os.path.exists(self.observations(station.name, f"{day}")):
                     yield station.name, f"{day}"
 
-    def absent(self):
-        """The pairs that are left out, since they have no observation file."""
-        wanted = [(station.name, f"{day}") for station in self.stations.values() for day in station.days]
-        return [pair for pair in wanted if pair not in set(self.station_days())] if self.leaves_absent else []
+    @functools.cached_property
+    def worked(self):
+        """The set of these pairs, as they are when the run begins."""
+        return set(self.station_days())
 
-    def options(self, part):
-        """The options of `solve` and `check` for a part. The last part has no end, so that no epoch is left out."""
+    def absent(self):
+        """The pairs that are left out, since they have no observation file, or the table of stations says so."""
+        wanted = [(station.name, f"{day}") for station in self.stations.values() for day in station.days]
+        return [pair for pair in wanted if pair not in self.worked]
+
+    def options(self, station, day, part):
+        """The options of `solve` and `check` for a part. The last part has no end, so that no epoch is left out. Of a
+        part of a chain steps.py is told too from which one it goes on."""
         first = (part - 1) * self.part + 1
         last = "" if part == self.parts[-1] else f" --to {part * self.part}"
-        return f"--from {first}{last}"
+        link = self.link(station, day, part)
+        behind = f" {BEHIND} {link[1]}/{link[2]}" if link else f" {BEHIND} {NOTHING}"
+        return f"--from {first}{last}{behind if self.stations[station].chain else ''}"
+
+    def link(self, station, day, part):
+        """The part from whose log a part goes on: its folder of results, its day and its number. None where the
+        station's days are no chain, or one begins here, as the day before isn't worked on."""
+        if not self.stations[station].chain:
+            return None
+        if part > 1:
+            return self.out, day, part - 1
+        before = f"{datetime.date.fromisoformat(day) - datetime.timedelta(days=1)}"
+        if (station, before) in self.worked:
+            return self.out, before, self.parts[-1]
+        kept = [int(path.stem) for path in Path(self.earlier, "verdicts", station, before).glob("*.json")]
+        return (self.earlier, before, max(kept)) if self.earlier and kept else None
+
+    def before(self, form, station, day, part):
+        """The file of the part from which a part goes on, by the form of its name; a list of one or of none."""
+        link = self.link(station, day, int(part))
+        return [form.format(out=link[0], station=station, day=link[1], part=link[2])] if link else []
+
+    def waiting(self):
+        """A line for each part for which others wait that go on from it, one behind the other."""
+        counts = Counter(self.waits())
+        for part, count in counts.items():
+            yield f"{told(*part)}: {count} part{'s' * (count > 1)} behind it in the chain wait{'s' * (count == 1)} for it"
+
+    def waits(self):
+        """For each part of a chain that waits the one for which it does."""
+        waits = {}
+        for station, day in sorted(self.worked):
+            for part in self.parts:
+                name, link = (station, day, part), self.link(station, day, part)
+                if link and not any(map(os.path.exists, self.before(VERDICT, *name))):
+                    before = (station, *link[1:])
+                    waits[name] = waits.get(before, before)
+                    yield waits[name]
 
 
 def told(station, day, part=None):

@@ -19,9 +19,9 @@ th { font-weight: 600; background: #f2f2f2 } td.few { background: #fff3c4 } td.n
 svg { font: 12px sans-serif; margin-right: 1em }"""
 INTRO = """Each epoch here is of a log that <code>gpscover check</code> or, of a track, <code>retrack</code> accepted: if
 the receiver was in its search box, all but q of the usable satellites kept the bounds that the settings declare, and of a
-track it kept the declared speed, it was in the region. A small region that isn't empty shows nothing about the bounds.
-Lengths are those of the kept boxes, and in epochs that are <em>certified</em> those of certified bounds; none is of a
-probability."""
+track it kept the declared speed, and all of this since its piece of the track began, it was in the region. A small region
+that isn't empty shows nothing about the bounds. Lengths are those of the kept boxes, and in epochs that are
+<em>certified</em> those of certified bounds; none is of a probability."""
 NONE = "–"
 SUMS = (
     "station,epochs,with a region,reach the box,few,empty,lost,pieces of tracks,certified,median E × N × U m,greatest"
@@ -56,20 +56,20 @@ class Gathered:
     """What the database has of a station."""
 
     COLUMNS = (
-        "day, mark, substr(gps_time, 12, 2), part, piece, suspects, certified, held, hpl_m, vpl_m, horizontal_reach_m,"
-        " vertical_reach_m, available, misleading, hazardous, east_m, north_m, up_m"
+        "day, mark, substr(gps_time, 12, 2), began_day, began_epoch, suspects, certified, held, hpl_m, vpl_m,"
+        " horizontal_reach_m, vertical_reach_m, available, misleading, hazardous, east_m, north_m, up_m"
     )
 
     def __init__(self, base, station):
         self.days, self.available, self.marks = Counter(), Counter(), Counter()
         self.sums, self.suspects = Counter(), Counter()
-        self.extents, self.reaches, self.levels, self.pieces = defaultdict(list), [], [], set()
+        self.extents, self.reaches, self.levels, self.pieces = defaultdict(list), [], [], {}
         words = f"SELECT {self.COLUMNS} FROM epochs WHERE station = ? ORDER BY day, epoch"
-        for day, mark, hour, part, piece, suspects, *values in base.execute(words, (station,)):
+        for day, mark, hour, began_day, began_epoch, suspects, *values in base.execute(words, (station,)):
             self.marks[mark] += 1
             self.suspects.update(suspects.split())
-            if piece is not None:
-                self.pieces.add((day, part, piece))
+            if began_day is not None:
+                self.pieces.setdefault((began_day, began_epoch), Counter())[day] += 1
             if values[0] is not None:
                 self.add(day, int(hour), mark == "reaches", values)
 
@@ -99,6 +99,14 @@ class Gathered:
             cell, [*counts, *track, self.sums["certified"], lengths(whole, statistics.median), lengths(whole, max)]
         )
 
+    def chain_cells(self):
+        """The cells of the pieces that go on through more than a day, and the others' count."""
+        long = {began: days for began, days in sorted(self.pieces.items()) if len(days) > 1}
+        for (day, epoch), days in long.items():
+            yield cell(f"{day} epoch {epoch}: {len(days)} days, {sum(days.values()):,} epochs")
+        if others := len(self.pieces) - len(long):
+            yield cell(f"and {others:,} of one day")
+
     def known_cells(self, limits):
         """The cells of the table of known places and limits."""
         known = [len(self.levels), self.sums["held"], self.sums["certified"]] if self.levels else [NONE] * 3
@@ -116,6 +124,7 @@ class Found:
         self.share = sum(gathered.days.values()) / expected
         self.sums = list(gathered.all_cells())
         self.known = list(gathered.known_cells(limits)) if gathered.levels or limits else None
+        self.chains = list(gathered.chain_cells())
         self.hours = [cell(lengths(gathered.extents[hour], statistics.median)) for hour in HOURS]
         self.reaches = [reach_shares([pair[k] for pair in gathered.reaches], expected) for k in range(2)]
 
@@ -217,6 +226,7 @@ class Base:
         self.absent = set(base.execute("SELECT station, day FROM absent"))
         self.days = sorted({day for _, day in self.given | self.absent})
         self.limits = base.execute("SELECT * FROM limits").fetchone()
+        self.chained = {name for (name,) in base.execute("SELECT DISTINCT station FROM files WHERE role = 'after'")}
         days = Counter(name for name, _ in self.given | self.absent)
         self.found = {name: Found(Gathered(base, name), self.limits, epochs * days[name]) for name in sorted(days)}
         columns = ", ".join(f"ifnull(known_{axis}_mm, {axis}_mm)" for axis in "xyz")
@@ -262,12 +272,14 @@ def page(path, expected, links=""):
         for name, it in pairs
         if it.suspects
     ]
+    chains = [[name, *it.chains] for name, it in pairs if name in base.chained]
     return (
         '<!DOCTYPE html>\n<html lang="en"><meta charset="utf-8"><title>Regions of the network</title>\n'
         f"<style>{STYLE}</style>\n<h1>Regions of the network</h1>\n<p>{INTRO}</p>\n"
         + table("All days", SUMS, [[name, *it.sums] for name, it in pairs])
         + table(f"Known places, and limits along the ground and up: {base.within()}", LEVELS, known)
         + "".join(by_day(base, expected, links))
+        + table("Chains: where a piece of a track begins", ["station"], chains)
         + pictures(base)
         + table("Satellites that surely broke their bounds: in how many epochs", ["station"], broken)
         + table(

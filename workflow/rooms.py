@@ -1,10 +1,12 @@
-"""A folder with the files of two recorded stations, in which the tests run the workflow."""
+"""Folders with the files of two stations, in which the tests run the workflow."""
 import gzip
 import os
 import re
 import shutil
 import signal
+import sqlite3
 import subprocess
+import sys
 import tempfile
 import time
 from pathlib import Path
@@ -45,6 +47,21 @@ stations:
   UBX0: {{days: [2008-05-26], settings: data/single.toml, known: place, place: [-3869310.0, 3436566.0, 3717366.0]}}
   GEON: {{days: [2005-04-02], settings: data/dual.toml, place: [-3976219.0, 3382372.0, 3652511.0]}}
 """
+CHAIN_CONFIG = """\
+program: {program}
+out: out
+days: {{from: 2008-05-26, to: 2008-05-29}}
+epochs: 4
+part: 2
+observations: data/{{station}}{{day:%Y%j}}.obs.gz
+navigation: data/BRDC{{day:%Y%j}}.nav.gz
+settings: data/settings.toml
+known: place
+limits: [50, 100]
+stations:
+  ALFA: {{place: [-3869310.320, 3436566.110, 3717366.550], chain: true, without: [2008-05-28]}}
+  BETA: {{place: [-3900700.000, 3384100.000, 3732600.000], days: [2008-05-26]}}
+"""
 # A program that waits before it solves the part that the file `hold` names, while it does, and writes its
 # number to `held`.
 HELD = """\
@@ -70,7 +87,13 @@ class Room:
         self.program = program
         self.path = Path(tempfile.mkdtemp(prefix="workflow-"))
         self.out = self.path / "out"
-        data = self.path / "data"
+        held = self.path / "program"
+        held.write_text(HELD.format(program=self.program))
+        held.chmod(0o755)
+        self.fill(self.path / "data", held)
+
+    def fill(self, data, program):
+        """Makes the files and the configuration."""
         data.mkdir()
         for name, obs, nav in (
             ("UBX02008147", ROOT / "examples/receiver.obs", ROOT / "examples/receiver.nav"),
@@ -80,10 +103,7 @@ class Room:
             shutil.copy(nav, data / f"brdc{name[4:]}.nav")
         (data / "single.toml").write_text(SETTINGS.format("single", '["C1C"]', STANDS, "[0, 25000]"))
         (data / "dual.toml").write_text(SETTINGS.format("dual", '["C1C", "C2W"]', "", "[-500, 500]"))
-        held = self.path / "program"
-        held.write_text(HELD.format(program=self.program))
-        held.chmod(0o755)
-        self.configure(CONFIG.format(program=held))
+        self.configure(CONFIG.format(program=program))
 
     def configuration(self):
         """The configuration."""
@@ -153,6 +173,40 @@ class Room:
         found = (self.out / "verdicts").glob("*/*/*.json")
         return sorted(str(path.relative_to(self.out / "verdicts"))[: -len(".json")] for path in found)
 
+    def select(self, words):
+        """What the database has."""
+        base = sqlite3.connect(self.out / "network.sqlite")
+        try:
+            return base.execute(words).fetchall()
+        finally:
+            base.close()
+
+    def audit(self, *more):
+        """The status of the audit, and what it says."""
+        words = [sys.executable, HERE / "audit.py", "out/network.sqlite", "out/logs", *more]
+        ran = subprocess.run(words, cwd=self.path, capture_output=True, text=True)
+        return ran.returncode, ran.stdout + ran.stderr
+
     def remove(self):
         """Removes the folder."""
         shutil.rmtree(self.path, ignore_errors=True)
+
+
+class ChainRoom(Room):
+    """One with the files of two made stations of four days, of which those of the first one are a chain."""
+
+    def fill(self, data, program):
+        words = [
+            sys.executable,
+            "-m",
+            "tools.made.made_network",
+            data,
+            "--stations",
+            "2",
+            "--days",
+            "4",
+            "--epochs",
+            "4",
+        ]
+        subprocess.run(words, cwd=ROOT, check=True)
+        self.configure(CHAIN_CONFIG.format(program=program))

@@ -25,13 +25,14 @@ from string import Template
 
 import report
 import tables
-from epoch_table import ROW_HEAD, epoch_lines
+from epoch_table import ROW_HEAD, Piece, epoch_lines, handed_on
 from gpscover.errors import Error
 from gpscover.integrity import Limits
-from gpscover.observations import absent_codes
+from gpscover.log import Box
+from gpscover.observations import absent_codes, search_of
 from gpscover.settings import Settings, toml
 from files import StepError, digest, last_line, read_json, run, settle, unpack_all, unpack_one, unpacked, write_json
-from network import COSTS, told
+from network import BEHIND, COSTS, told
 
 ROOT = Path(__file__).resolve().parent.parent
 BOUNDS_HEAD = "[bounds]"
@@ -134,21 +135,45 @@ def station_words(args):
     return ["--station", path] if os.path.getsize(path) else []
 
 
-def command_words(args):
+def command_words(args, room):
     """The two commands of a part, with the words that both have behind the files: `track` and `retrack` where the day's
     settings say how fast the receiver moves at most, else `solve` and `check`.
 
-    What ties a part to another one, if anything, stands here alone: each part is searched from the settings' search box on.
+    What ties a part to another one stands here alone: in a chain it goes on from the log of the part before, and else
+    each part is searched from the settings' search box on.
     """
     with contextlib.suppress(ValueError):  # settings that can't be read are refused by the program, which says why
         if "motion" in toml().loads(Path(args.file["settings"]).read_text(encoding="utf-8")):
-            return "track", "retrack", [*args.words, *station_words(args)]
+            return "track", "retrack", [*args.words, *station_words(args), *after_words(args, room)]
+        if args.behind:
+            raise StepError("chain: the settings have no table [motion], so no day can go on from another")
     return "solve", "check", [*args.words, *station_words(args)]
+
+
+def after_words(args, room):
+    """The words that name the log of the part before, where there is one. It has to be the one that was checked."""
+    zst, said = args.file.get("before"), args.file.get("said")
+    if not zst:
+        return []
+    try:
+        is_right = is_checked(zst, read_json(said), f"{room}/after")
+    except StepError as error:
+        put_aside(args, f"{error}", zst)
+    if not is_right:
+        put_aside(args, "it isn't the one that was checked", zst)
+    return ["--after", f"{room}/after"]
+
+
+def chain_box(args):
+    """The search box of a part's settings in um, which a log that goes on from another one doesn't say; or None."""
+    with contextlib.suppress(Error):
+        return search_of(args.file["settings"], args.file["obs"])
+    return None
 
 
 def solve(args, room):
     """Solves or tracks the epochs of a part. The report is left out: the log has all of it."""
-    command, _, more = command_words(args)
+    command, _, more = command_words(args, room)
     given = {it["role"]: it["name"] for it in read_json(args.file["sources"])}
     files = [args.file[key] for key in ("obs", "nav", "settings")]
     roles = {"obs": (files[0], given["observations"]), "station": (args.file["station"], given.get("beside"))}
@@ -164,32 +189,36 @@ def commit():
     return ""
 
 
-def put_aside(args, verdict):
-    """Keeps a log that wasn't accepted, with what was said of it, where no later step looks."""
-    name = os.path.basename(args.file["log"])
-    target = f"{args.out}/refused/{args.station}/{args.day}/{name}"
+def put_aside(args, verdict, log=None):
+    """Keeps a log that wasn't accepted, that of the part or of the one before, with what was said of it, where no later
+    step looks."""
+    log = log or args.file["log"]
+    target = "/".join((args.out, "refused", *Path(log).parts[-3:]))
     os.makedirs(os.path.dirname(target), exist_ok=True)
-    os.replace(args.file["log"], target)
+    os.replace(log, target)
     Path(f"{target}.verdict").write_text(verdict + "\n", encoding="utf-8")
     raise StepError(f"the log isn't accepted: {verdict}; it is kept as {target}")
 
 
 def check(args, room):
     """Checks a log with the options that it was solved with, and notes verdict and checksums."""
-    solved_by, command, more = command_words(args)
-    keys = ("obs", "nav", "settings", "log") + (("station",) if "--station" in more else ())
-    files = {key: digest(args.file[key]) for key in keys}
-    words = [program_of(args), command, *(args.file[key] for key in keys[:4]), *more]
+    solved_by, command, more = command_words(args, room)
+    keys = ("obs", "nav", "settings", "log") + tuple(key for key in ("station", "after") if f"--{key}" in more)
+    paths = {**args.file, "after": f"{room}/after"}
+    files = {key: digest(paths[key]) for key in keys}
+    words = [program_of(args), command, *(paths[key] for key in keys[:4]), *more]
     ended = subprocess.run(words, capture_output=True, text=True)
     said = last_line(ended.stdout or ended.stderr)
     if ended.returncode == 1 or ended.returncode == 3 and said.startswith("log "):
         put_aside(args, said)
     if ended.returncode != 0 or not said.startswith("yes "):
         raise StepError(f"{command}: status {ended.returncode}, {said}")
-    if files != {key: digest(args.file[key]) for key in keys}:
+    if files != {key: digest(paths[key]) for key in keys}:
         put_aside(args, "a file has changed while it was checked")
     value = {"station": args.station, "day": args.day, "part": int(args.part), "options": " ".join(args.words)}
     value["command"] = solved_by
+    if args.behind:
+        value["chain"] = {"behind": args.behind, "search": chain_box(args)}
     program = {"sha256": digest(args.program)["sha256"], "commit": commit()}
     sources = read_json(args.file["sources"])
     write_json(f"{room}/verdict", {**value, "verdict": said, "files": files, "sources": sources, "program": program})
@@ -229,7 +258,11 @@ def rows(args, room):
         table = csv.writer(file, lineterminator="\n")
         table.writerow(ROW_HEAD)
         head, is_track = [args.station, args.day, args.part], verdict["command"] == "track"
-        for values in epoch_lines(f"{room}/log", is_track, place, limits and Limits(*limits)):
+        piece = (
+            Piece(args.day, handed_on(args.file["before"]) if args.file.get("before") else None) if is_track else None
+        )
+        search = verdict.get("chain", {}).get("search")
+        for values in epoch_lines(f"{room}/log", piece, place, limits and Limits(*limits), search and Box(*search)):
             table.writerow(head + values)
     settle(f"{room}/csv", args.file["csv"])
 
@@ -339,6 +372,9 @@ def arguments():
     args, args.words = parser.parse_known_args()
     if args.words[:1] == ["--"]:
         del args.words[0]
+    args.behind = ""
+    if BEHIND in args.words:  # the step's own: it follows the words of the program
+        *args.words, _, args.behind = args.words
     args.file = dict(name.split("=", 1) for name in args.name)
     return args
 

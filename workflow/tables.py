@@ -3,8 +3,9 @@
 epochs    a line an epoch, as epoch_table.py has it
 files     the files of each part with size, checksum, and what was said of them:
           role observations, navigation, beside (as they were given), obs, nav, station, settings (as the program
-          read them), log; beside and station only where there is a station beside the receiver
-absent    days that were left out since they have no observation file
+          read them), after, log; beside and station only where there is a station beside the receiver, and after only
+          where the log goes on from another one: its name is the day and the part of that one, DAY/PART
+absent    days that were left out since they have no observation file, or the configuration says so
 stations  where each is by the configuration, and where it is known to stand, in mm
 limits    the two alert limits in m, where there are any
 """
@@ -14,10 +15,13 @@ import sqlite3
 from epoch_table import ROW_HEAD
 from files import StepError, read_json
 
-WHOLE = set("part epoch satellites in edge out splits piece held available misleading hazardous certified".split())
-TEXT = {"station", "day", "gps_time", "mark", "faces", "suspects"}
+WHOLE = set(
+    "part epoch satellites in edge out splits piece began_epoch held available misleading hazardous certified".split()
+)
+SAID = {"station", "day", "gps_time", "mark", "faces", "suspects"}  # of each epoch, and may be empty
+TEXT = SAID | {"began_day"}
 FILES = "station day part role name bytes sha256 verdict program commit_id command".split()
-ROLES = ("obs", "nav", "station", "settings", "log")
+ROLES = ("obs", "nav", "station", "settings", "after", "log")
 
 
 def kind(column):
@@ -44,21 +48,33 @@ def epoch_rows(path):
             raise StepError(f"{path} has another head")
         for row in table:
             pairs = zip(ROW_HEAD, row, strict=True)
-            yield [value if value != "" or column in TEXT else None for column, value in pairs]
+            yield [value if value != "" or column in SAID else None for column, value in pairs]
 
 
-def file_rows(path):
+def file_rows(value):
     """The rows of the files of a part, by its verdict."""
-    value = read_json(path)
     head, program = [value[key] for key in ("station", "day", "part")], value["program"]
     for it in value["sources"]:
         yield [*head, it["role"], it["name"], it["bytes"], it["sha256"], *[""] * 4]
     for role in ROLES:
         it = value["files"].get(role)
-        if it is None:  # a receiver without a station
+        if it is None:  # a receiver without a station, or the begin of a chain
             continue
+        name = {"log": value["options"], "after": value.get("chain", {}).get("behind")}.get(role, "")
         said = [value["verdict"], program["sha256"], program["commit"], value["command"]] if role == "log" else [""] * 4
-        yield [*head, role, value["options"] if role == "log" else "", it["bytes"], it["sha256"], *said]
+        yield [*head, role, name, it["bytes"], it["sha256"], *said]
+
+
+def refuse_other_log(value, sums):
+    """A part that goes on from another one of the run has to have been given its checked log. `sums` has those before
+    it."""
+    after, station = value["files"].get("after"), value["station"]
+    sums[f"{station}/{value['day']}/{value['part']}"] = value["files"]["log"]["sha256"]
+    if after is not None:
+        behind = value["chain"]["behind"]
+        if sums.get(f"{station}/{behind}", after["sha256"]) != after["sha256"]:
+            name = f"{station} {value['day']} part {value['part']}"
+            raise StepError(f"{name}: it goes on from a log that isn't the one of {behind}")
 
 
 def make_database(args, path):
@@ -69,10 +85,12 @@ def make_database(args, path):
     base.execute("PRAGMA synchronous = OFF")
     create(base)
     holes, file_holes = ", ".join("?" * len(ROW_HEAD)), ", ".join("?" * len(FILES))
+    sums = {}
     for station, day in listed["days"]:
         base.executemany(f"INSERT INTO epochs VALUES ({holes})", epoch_rows(f"{args.out}/days/{station}/{day}.csv"))
         for part in range(1, listed["parts"] + 1):
-            verdict = f"{args.out}/verdicts/{station}/{day}/{part}.json"
+            verdict = read_json(f"{args.out}/verdicts/{station}/{day}/{part}.json")
+            refuse_other_log(verdict, sums)
             base.executemany(f"INSERT INTO files VALUES ({file_holes})", file_rows(verdict))
     base.executemany("INSERT INTO absent VALUES (?, ?)", listed["absent"])
     base.executemany("INSERT INTO stations VALUES (?, ?, ?, ?, ?, ?, ?)", listed["stations"])

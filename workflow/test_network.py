@@ -1,7 +1,6 @@
 """Tests of what a network knows: tracks and their pieces, known places, limits, suspects, the page, and the template."""
 import re
 import shutil
-import sqlite3
 import subprocess
 from argparse import Namespace
 
@@ -9,7 +8,7 @@ import pytest
 
 import report
 import tables
-from epoch_table import ROW_HEAD, epoch_lines
+from epoch_table import ROW_HEAD, Piece, epoch_lines, handed_on
 from files import write_json
 from gpscover.integrity import Limits
 from made_logs import HEAD, LOST, PAVED, TUBE, WITHIN
@@ -31,11 +30,14 @@ def as_asked(request):
         pytest.skip("tests on a Slurm are run alone")
 
 
-def lines_of(room, text, is_track=False, place=None, limits=None):
+DAY = "2024-01-01"
+
+
+def lines_of(room, text, is_track=False, place=None, limits=None, began=None, search=None):
     """The lines of the table of a log's text."""
     path = room / "made.log"
     path.write_text(HEAD + text, newline="\n")
-    return list(epoch_lines(path, is_track, place, limits))
+    return list(epoch_lines(path, Piece(DAY, began) if is_track else None, place, limits, search))
 
 
 def values_of(lines, *names):
@@ -48,8 +50,8 @@ class TestEpochs:
         # Behind the lost one a log goes on, where the settings have it so: with one that is few, and one in the first
         # search box.
         again = WITHIN.replace("epoch 1 895816769", "epoch 5 895816779")
-        told = values_of(lines_of(room, TUBE + LOST + FEW + again, True), "epoch", "mark", "piece")
-        assert told == [(1, "ok", 1), (2, "ok", 1), (3, "lost", 1), (4, "few", 2), (5, "ok", 2)]
+        told = values_of(lines_of(room, TUBE + LOST + FEW + again, True), "epoch", "mark", "piece", "began_epoch")
+        assert told == [(1, "ok", 1, 1), (2, "ok", 1, 1), (3, "lost", 1, 1), (4, "few", 2, 4), (5, "ok", 2, 4)]
         # A track that is lost in its first epoch has nothing by which the log alone would tell it from one of solve.
         empty = PAVED.split("split", 1)[0] + "out 0\ndone 0\n"
         assert values_of(lines_of(room, empty, True), "mark", "piece") == [("lost", 1)]
@@ -74,7 +76,7 @@ class TestEpochs:
 
     def test_suspects_and_certified_bounds_are_those_of_the_log(self):
         path = ROOT / "examples/renewed-rows.log"
-        assert set(values_of(epoch_lines(path, False, None, None), "certified", "suspects")) <= {(0, "")}
+        assert set(values_of(epoch_lines(path, None, None, None), "certified", "suspects")) <= {(0, "")}
 
 
 class TestPage:
@@ -139,15 +141,8 @@ class TestRuns:
     @pytest.fixture(autouse=True)
     def room_of_two_stations(self, program, request):
         self.network = Room(program)
+        self.select = self.network.select
         request.addfinalizer(self.network.remove)
-
-    def select(self, words):
-        """What the database has."""
-        base = sqlite3.connect(self.network.out / "network.sqlite")
-        try:
-            return base.execute(words).fetchall()
-        finally:
-            base.close()
 
     def test_a_track_that_is_lost_and_a_page_a_day(self):
         pytest.importorskip("plotly")
@@ -168,8 +163,7 @@ class TestRuns:
             assert f'<a href="pages/{name}.html">' in page
             text = (self.network.out / f"pages/{name}.html").read_text()
             assert f"<title>{name.replace('/', ' ')}</title>" in text
-        words = ["python3", HERE / "audit.py", "out/network.sqlite", "out/logs"]
-        assert subprocess.run(words, cwd=self.network.path, capture_output=True, text=True).stdout.count(": yes ") == 2
+        assert self.network.audit()[1].count(": yes ") == 2
 
     def test_a_code_that_a_file_lacks_is_named(self):
         config = self.network.configuration()

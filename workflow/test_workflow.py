@@ -21,7 +21,7 @@ from pathlib import Path
 import pytest
 
 from gpscover.log import epochs as epochs_of
-from rooms import HERE, LATEST, ROOT, STATION, TABLES, Room
+from rooms import HERE, LATEST, ROOT, STATION, TABLES, ChainRoom, Room
 from tools.made import made_network
 
 PARTS = ("GEON/2005-04-02/1", "GEON/2005-04-02/2", "UBX0/2008-05-26/1", "UBX0/2008-05-26/2")
@@ -163,9 +163,8 @@ class TestWhole(Base):
             "place = [-3978241958, 3382840234, 3649900853]\n"
             in (self.room.out / "settings/GEON/2005-04-02.toml").read_text()
         )
-        words = [sys.executable, HERE / "audit.py", "out/network.sqlite", "out/logs", "--sample", "9"]
-        ran = subprocess.run(words, cwd=self.room.path, capture_output=True, text=True)
-        assert (ran.returncode, ran.stdout.count(": yes ")) == (0, 6), ran.stdout + ran.stderr
+        status, said = self.room.audit("--sample", "9")
+        assert (status, said.count(": yes ")) == (0, 6), said
 
     def test_a_wrong_configuration(self):
         config = self.room.configuration()
@@ -185,6 +184,8 @@ class TestWhole(Base):
             (config.replace("[1000, 1000]", "200"), "limits: [along the ground, up] in metres is needed, not 200"),
             (config + "pages: maybe\n", "pages: false or true is needed, not 'maybe'"),
             (config.replace(", place: [-3869310.0", ", elsewhere: [0"), "UBX0: known: the station has no place"),
+            (config + "chain: true\nkeep: checksum\n", "GEON: chain: each day wants the log of the one before"),
+            (config + "chain: days\n", "chain: false or true is needed, not 'days'"),
         ):
             self.room.configure(wrong)
             assert self.room.run() != 0
@@ -375,6 +376,15 @@ class TestOnSlurm(Base):
     def test_the_same_tables(self):
         self.is_repaired(profile="slurm", jobs=8)
         self.has_nothing_to_do()
+
+    def test_the_same_tables_of_a_chain(self):
+        tables = []
+        for ways in ({}, {"profile": "slurm"}):
+            chain = ChainRoom(self.room.program)
+            self.at_end(chain.remove)
+            assert chain.run(**ways) == 0, chain.said()
+            tables.append([(chain.out / name).read_bytes() for name in TABLES[:2]])
+        assert tables[0] == tables[1]
 
     def test_a_node_that_is_drained_while_it_works(self):
         nodes = []

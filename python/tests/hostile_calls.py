@@ -96,6 +96,7 @@ def call_of(draw, room):
             (summary, log, "--places", places, "--azimuth", number(draw)),
             (summary, log, "--kml", out),
             (summary, log, "--obs", path_of(draw, room, "obs")),
+            (summary, log, "--obs", path_of(draw, room, "obs"), "--settings", path_of(draw, room, "settings")),
             (known, log, places, "--limit", number(draw), number(draw)),
             (known, log, places, "--along", places),
             (observed, log, "--places", places),

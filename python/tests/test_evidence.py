@@ -1,8 +1,8 @@
 """Evidence of a run, by the program of GPSCOVER or of ./gpscover.
 
-A bundle is made of one epoch of the example with eight splits, and one of a track of two. Then it is checked in another
-folder, and each of nineteen changes of the one, three of the other and four of one with zones has to be told by the line that it
-concerns.
+A bundle is made of one epoch of the example with eight splits, one of a track of two, and one of a track that goes on from
+that. Then it is checked in another folder, and each of nineteen changes of the first, three of the second and four of each other
+has to be told by the line that it concerns.
 """
 
 import os
@@ -15,7 +15,7 @@ from pathlib import Path
 import pytest
 from made_logs import EXAMPLES, TOP, ended, ended_with, written
 
-from gpscover import Error, evidence, observations
+from gpscover import Error, evidence, observations, signed
 from gpscover.program import own_program
 
 PROGRAM = os.environ.get("GPSCOVER") or str(own_program())
@@ -344,6 +344,67 @@ class TestTracks(Room):
             "4 in the file, 2 in the log: 2 paved, 0 few, 1 empty, 0 reach the search box; 2 left out;"
             " the track ends with epoch 2, which keeps no box"
         )
+
+
+AFTER_CHANGES = (
+    ("where it was left", edited("earlier.log", r"(?m)^(edge \d+ -\d+)\d", r"\g<1>"), "after: "),
+    ("the words of that", edited("evidence.txt", r"(?m)^(began at .* x )-3", r"\g<1>-2"), "began: "),
+    (
+        "that there is one",
+        edited("evidence.txt", r"(?m)^after .*\n", ""),
+        "retrack: the bundle says yes [^\n]*; here it is no 5",
+    ),
+    ("a file less", lambda folder: (folder / "earlier.log").unlink(), "earlier.log is missing"),
+)
+
+
+def tracked_after(files, earlier, *options):
+    """Makes the log of a track of some epochs that goes on from an earlier one, or begins where that is None."""
+    more = [] if earlier is None else ["--after", earlier]
+    subprocess.run([PROGRAM, "track", *files, *options, *more], stdout=subprocess.DEVNULL, check=True)
+
+
+class TestChains(Room):
+    @classmethod
+    def setup_class(cls):
+        super().setup_class()
+        cls.files = receiver_in(cls.room, MOTION)
+        cls.earlier = cls.room / "early.log"
+        tracked_after([*cls.files[:3], cls.earlier], None, "--to", "2")
+        tracked_after(cls.files, cls.earlier, "--from", "3")
+        cls.bundle = cls.room / "bundle"
+        cls.words = [*cls.files, "--track", "--from", 3, "--program", PROGRAM]
+        cls.status, said, _ = ended_with(evidence, "make", cls.bundle, *cls.words, "--after", cls.earlier)
+        cls.lines = dict(line.split(" ", 1) for line in said.splitlines())
+
+    def test_the_earlier_log_is_of_the_bundle(self):
+        assert self.status == 0
+        lines = self.lines
+        assert (lines["retrack"], lines["recheck"]) == (f"yes {boxes_in(self.files[3])}",) * 2
+        assert lines["after"].endswith(f" sha256 {evidence.checksum(self.earlier)}")
+        # The search box is that of the settings, and not the smaller one in which the first epoch is searched.
+        assert lines["search"].endswith("z 3716365.893700 to 3718365.893700 m")
+        assert lines["began"].startswith("at 2008-05-26 05:59:30.999 GPS time in the earth-fixed box x -38693")
+        told = "4 in the file, 2 in the log: 2 paved, 0 few, 0 empty, 0 reach the search box; 2 left out"
+        assert lines["epochs"] == told
+        assert self.check(self.copy(), "--sha256", evidence.checksum(self.bundle / "evidence.txt"))[0] == 0
+
+    def test_each_change_is_told(self):
+        self.expect_told(AFTER_CHANGES)
+
+    def test_it_is_no_evidence_without_the_earlier_log_or_as_no_track(self):
+        with pytest.raises(Error, match="no evidence: retrack says no 5"):
+            ended_with(evidence, "make", self.room / "none", *self.words)
+        status, _, said = ended(evidence, "make", self.room / "none", *self.files, "--after", self.earlier)
+        assert status == 2 and "--after needs --track" in said
+        assert not (self.room / "none").exists()
+
+    def test_an_earlier_log_that_leaves_nothing_is_told(self):
+        with written(log="gpscover 1\nrules 1 10 1000\nfew 4 895816772999000000000 3\n") as (log,):
+            assert signed.left_by(log) == (
+                "began",
+                "anywhere in the search box, since earlier.log leaves no box by its last paved epoch",
+            )
 
 
 FENCES = "gpszones 2\nzone here -4000000000000 3000000000000 3000000000000 -3000000000000 4000000000000 4000000000000\n"

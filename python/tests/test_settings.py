@@ -5,6 +5,8 @@ from hypothesis import given
 from hypothesis import strategies as st
 from made_logs import EXAMPLES
 
+from gpscover.errors import Error
+from gpscover.observations import search_of
 from gpscover.settings import Bounds, Galileo, Search, Settings, SettingsError, Signal, Station
 
 LENGTH = st.integers(-(10**6), 10**6)
@@ -48,6 +50,15 @@ def test_the_example_s():
     # 1.95 to 2.65 m and 2 %, and 402 mm for the noise
     assert (settings.bounds.zenith, settings.bounds.vertical, settings.satellites) == ((1509, 3105), (0, 6000), {})
     assert settings.search.directions == 8
+    # Half sides of 1 km round the position in the header, which the settings alone don't have.
+    assert settings.search_box() is None
+    x, y, z = -3869309827800, 3436565477600, 3717365893700
+    ends = [part + sign * 10**9 for sign in (-1, 1) for part in (x, y, z)]
+    assert list(search_of(EXAMPLES / "settings.toml", EXAMPLES / "receiver.obs")) == ends
+    with pytest.raises(Error, match="the middle of the search box is in the header of a file, which --obs names"):
+        search_of(EXAMPLES / "settings.toml", None)
+    own = Settings(Search((1, 2, 3), 1, 8, (10, -20, 30)), settings.signal, settings.bounds)
+    assert own.search_box() == (9000, -22000, 27000, 11000, -18000, 33000)
     assert (settings.speed, settings.galileo) == (None, None)
 
 

@@ -6,7 +6,21 @@ import re
 from xml.etree import ElementTree
 
 import pytest
-from made_logs import HEAD, LOST, PAVED, ROOT, TUBE, WITHIN, box_at, ended_with, epoch_of, totals_of, tube_root, written
+from made_logs import (
+    EXAMPLES,
+    HEAD,
+    LOST,
+    PAVED,
+    ROOT,
+    TUBE,
+    WITHIN,
+    box_at,
+    ended_with,
+    epoch_of,
+    totals_of,
+    tube_root,
+    written,
+)
 
 from gpscover import Error, kml, region, summary
 
@@ -123,6 +137,16 @@ class TestMarks:
         with written(obs="> 2008 05 26 05 59 30.0000000  0  x\n", log=HEAD + TUBE) as (obs, log):
             with pytest.raises(Error, match="obs: this isn't a file of observations"):
                 ended_with(summary, log, "--obs", obs)
+
+    def test_a_track_that_goes_on_reaches_the_search_box_of_the_settings_that_are_named(self):
+        # Without them its first search box, which is that of the settings of any other log, is taken for it.
+        settings = (EXAMPLES / "settings.toml").read_text(encoding="utf-8")
+        settings = re.sub("(?m)^centre = .*", "centre = [6378137000, 0, 0]", settings)
+        settings = re.sub("(?m)^half = .*", "half = 100000", settings)
+        with written(log=HEAD + TUBE[len(WITHIN) :], settings=settings) as (log, path):
+            for words, wanted in (([], 1), (["--settings", path], 0)):
+                _, out, _ = ended_with(summary, log, *words)
+                assert f"epochs 1: 1 with a region, of which {wanted} reach the search box" in out
 
     def test_a_track_reaches_the_search_box_of_the_settings_alone(self):
         there = tube_root(6378037, 15, -15, 6378144, 35, 15)

@@ -170,6 +170,13 @@ class TestStandingDay:
         assert row.startswith("| 33.3333 mm/s | 2, behind 1.0 m | 3, behind 2.0 m | ")
 
 
+    def test_the_lines_of_some_epochs_are_those_of_their_blocks(self):
+        blocks = [PAVED.replace("epoch 1 ", f"epoch {k} ") for k in (1, 2, 4)]
+        with written(log=HEAD + "".join(blocks) + "few 5 895816772999000000000 3\n") as (log,):
+            assert "".join(standing_day.blocks_of(log, 2, 4)) == "".join(blocks[1:])
+            assert standing_day.blocks_of(log, 5, 9) == ["few 5 895816772999000000000 3\n"]
+
+
 class TestBench:
     TAKEN = {"instructions": 1_000_000, "seconds": 0.1, "peak": 4_000_000}
 

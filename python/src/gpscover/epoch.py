@@ -14,6 +14,7 @@ from typing import NamedTuple
 Point = tuple[float, float, float]
 
 UM_PER_M = 1_000_000
+UM_PER_MM = 1000
 PS_PER_MS = 1_000_000_000
 PS_PER_US = 1_000_000
 GPS_EPOCH = datetime.datetime(1980, 1, 6)

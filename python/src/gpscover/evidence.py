@@ -1,7 +1,7 @@
 """Puts the evidence of a run together in one folder, and checks a bundle that somebody else made.
 
-usage: gpslog evidence make FOLDER OBS NAV SETTINGS LOG [--station STATION] [--zones ZONES] [--track]
-[--from N] [--to N] [--program GPSCOVER]
+usage: gpslog evidence make FOLDER OBS NAV SETTINGS LOG [--station STATION] [--zones ZONES]
+[--track [--after EARLIER]] [--from N] [--to N] [--program GPSCOVER]
        gpslog evidence check FOLDER [--sha256 HEX] [--other-program | --second-only] [--program
 GPSCOVER]
 
@@ -11,7 +11,10 @@ checksums of the files and of both checkers, the versions, the options, both ver
 epochs the observations have, and of these are in the log, paved, few, empty, reach the search box,
 or are left out, which are those that the log doesn't have. --from and --to are those that the log
 was solved with. --track says that it is one of `track`: it is checked as one, by `retrack` and by
-recheck.py --track, and where it ends with an epoch that keeps no box this one is named. --station
+recheck.py --track, and where it ends with an epoch that keeps no box this one is named. --after
+names the log that it goes on from: that is a file of the bundle too, and both checkers are given
+it. What is signed says where that one left the receiver; whether it is right is its own evidence,
+and a chain of tracks is as many bundles. --station
 names the observation file of the station of a log that was solved with one: it is a fifth file of
 the bundle, and both checkers are given it. --zones names a file of zones: it is in the bundle too,
 with what `guard` of GPSCOVER says of it as receiver.answers, which `gpslog answers` has to say of
@@ -52,9 +55,9 @@ from pathlib import Path
 
 from gpscover import zones
 from gpscover.command import Command, work_of
-from gpscover.errors import Error
-from gpscover.log import PathLike, epochs
-from gpscover.observations import file_epochs
+from gpscover.errors import Error, UsageError
+from gpscover.log import Box, PathLike, epochs
+from gpscover.observations import file_epochs, search_of
 from gpscover.program import home, own_program
 from gpscover.region import reaches
 from gpscover.settings import Settings
@@ -67,6 +70,7 @@ SECOND = "second/recheck.py"  # from the top of the repository
 SHEET = "evidence.txt"
 FILES = {"obs": "receiver.obs", "nav": "receiver.nav", "settings": "settings.toml", "log": "receiver.log"}
 STATION = {"station": "station.obs"}  # where there is one
+AFTER = {"after": "earlier.log"}  # from which a track goes on
 ZONES = {"zones": "receiver.zones", "answers": "receiver.answers"}  # where there are some
 HEAD = "gpscover evidence 2"
 FORMER_HEAD = "gpscover evidence 1"
@@ -79,21 +83,32 @@ OPTIONS = re.compile(r"(--track )?--from ([1-9]\d{0,5}) --to ([1-9]\d{0,5})", re
 @dataclass
 class Options:
     """What a log was made with: its first and its last epoch, whether it is one of `track`, and
-    whether there are a station and zones."""
+    whether there are a station, zones and an earlier log."""
 
     first: int
     last: int
     track: bool = False
     station: bool = False
     zones: bool = False
+    after: bool = False
 
     def files(self) -> dict[str, str]:
         """The names of the files by their roles."""
-        return FILES | (STATION if self.station else {}) | (ZONES if self.zones else {})
+        more = (STATION if self.station else {}) | (AFTER if self.after else {}) | (ZONES if self.zones else {})
+        return FILES | more
 
-    def station_words(self, folder: Path) -> list[str]:
-        """The words that name the station's file, for both checkers."""
-        return ["--station", str(folder / STATION["station"])] if self.station else []
+    def more_words(self, folder: Path) -> list[str]:
+        """The words that name the station's file and the earlier log, for both checkers."""
+        words = ["--station", str(folder / STATION["station"])] if self.station else []
+        return words + (["--after", str(folder / AFTER["after"])] if self.after else [])
+
+    def earlier(self, folder: Path) -> Path | None:
+        """The earlier log, if there is one."""
+        return folder / AFTER["after"] if self.after else None
+
+    def search(self, folder: Path) -> Box | None:
+        """The search box of the settings, where the log begins in a smaller one."""
+        return search_of(folder / FILES["settings"], folder / FILES["obs"]) if self.after else None
 
     def command(self) -> str:
         """The program's command that checks it."""
@@ -161,7 +176,7 @@ def counts(folder: Path, options: Options) -> str:
     ended = 0  # the epoch that ends a track, if it is the last one
     try:
         total = file_epochs(folder / FILES["obs"])
-        for epoch in epochs(folder / FILES["log"]):
+        for epoch in epochs(folder / FILES["log"], options.search(folder)):
             marks["few" if epoch.few else "paved"] += 1
             marks["empty"] += epoch.empty
             marks["reach"] += reaches(epoch)
@@ -188,7 +203,7 @@ def answers(folder: Path) -> list[str]:
 def guard_words(folder: Path, program: str, options: Options) -> list[str]:
     """The words by which the program says it."""
     files = [str(folder / name) for name in (*list(FILES.values())[:3], ZONES["zones"], FILES["log"])]
-    more = options.track_words() + options.epochs() + options.station_words(folder)
+    more = options.track_words() + options.epochs() + options.more_words(folder)
     return [program, "guard", *files, *more]
 
 
@@ -217,22 +232,23 @@ def zone_lines(folder: Path, program: str | None, options: Options) -> Iterator[
 def claims(folder: Path, options: Options) -> Lines:
     """What is signed, in words."""
     try:
-        return claim_lines(Settings.read(folder / FILES["settings"]), folder / FILES["log"], options.track)
+        more = options.earlier(folder), options.search(folder)
+        return claim_lines(Settings.read(folder / FILES["settings"]), folder / FILES["log"], options.track, *more)
     except (Error, OSError) as error:
         return [("claim", f"none: {error}".replace(str(folder) + "/", ""))]
 
 
-def regions(folder: Path) -> Iterator[tuple[str, str]]:
+def regions(folder: Path, options: Options) -> Iterator[tuple[str, str]]:
     """Where the receiver was in each epoch, in words; up to where the log can be read."""
     with contextlib.suppress(Error, OSError):
-        yield from epoch_lines(folder / FILES["log"])
+        yield from epoch_lines(folder / FILES["log"], options.search(folder))
 
 
 def made(folder: Path, program: str | None, second: Path, options: Options) -> Lines:
     """The lines of the evidence in order; without a program those that need none."""
     files = [str(folder / name) for name in FILES.values()]
     command, chosen = options.command(), options.epochs()
-    words = [*files, *chosen, *options.station_words(folder)]
+    words = [*files, *chosen, *options.more_words(folder)]
     again = [sys.executable, str(second), *options.track_words(), *words]
     lines = claims(folder, options)
     lines += [(role, f"{name} {identity(folder / name)}") for role, name in options.files().items()]
@@ -244,7 +260,7 @@ def made(folder: Path, program: str | None, second: Path, options: Options) -> L
     lines += [("recheck", verdict(again)), ("epochs", counts(folder, options))]
     if options.zones:
         lines += zone_lines(folder, program, options)
-    return [*lines, *regions(folder)]
+    return [*lines, *regions(folder, options)]
 
 
 def sheet(lines: Lines) -> str:
@@ -263,9 +279,12 @@ def dissent(said: dict[str, str], command: str) -> str:
 
 def run_make(args: argparse.Namespace) -> None:
     """Makes a bundle."""
+    if args.after is not None and not args.track:
+        raise UsageError("--after needs --track")
     folder = Path(args.bundle)
-    options = Options(args.first, args.last, args.track, args.station is not None, args.zones is not None)
-    more = [path for path in (args.station, args.zones) if path is not None]
+    given = (args.station, args.zones, args.after)
+    options = Options(args.first, args.last, args.track, *(path is not None for path in given))
+    more = [path for path in (args.station, args.after, args.zones) if path is not None]
     paths = [args.obs, args.nav, args.settings, args.log, *more]
     program = str(args.program or own_program())
     folder.mkdir()
@@ -306,7 +325,7 @@ def read_sheet(folder: Path) -> tuple[Lines, Options]:
         raise Error(f"{folder / SHEET}: this isn't evidence of gpscover, or it was changed")
     track, first, last = found.groups()
     names = dict(said)
-    return said, Options(int(first), int(last), bool(track), "station" in names, "zones" in names)
+    return said, Options(int(first), int(last), bool(track), *(role in names for role in ("station", "zones", "after")))
 
 
 def differences(said: Lines, found: Lines, is_other: bool) -> Iterator[str]:
@@ -376,6 +395,7 @@ def arguments(parser: argparse.ArgumentParser) -> None:
     make.add_argument("--station", help="the observation file of the station, if there was one")
     make.add_argument("--zones", help="a file of zones, of which the program and the log's boxes are asked")
     make.add_argument("--track", action="store_true", help="the log is one of `track`")
+    make.add_argument("--after", metavar="EARLIER", help="the log from which the track goes on")
     make.add_argument(
         "--from", dest="first", type=epoch_number, default=1, metavar="N", help="the log's first epoch (1)"
     )

@@ -217,11 +217,12 @@ def read_block(words: list[str], outliers: int, lines: Iterator[str], head: str)
 class Searches:
     """The search boxes of a log's epochs.
 
-    Where they lie in the first one and differ from it, the log is one of `track`.
+    Where they lie in the first one and differ from it, the log is one of `track`. That of a track which goes on from an
+    earlier log is smaller than the search box of the settings, which has to be given then.
     """
 
-    def __init__(self) -> None:
-        self.first: Box | None = None
+    def __init__(self, search: Box | None = None) -> None:
+        self.first = search
         self.moved = False
 
     def add(self, epoch: Epoch) -> None:
@@ -236,15 +237,15 @@ class Searches:
         epoch.moves = self.moved
 
 
-def blocks(lines: Iterator[str]) -> Iterator[Epoch]:
-    """The epochs of a log's lines."""
+def blocks(lines: Iterator[str], search: Box | None = None) -> Iterator[Epoch]:
+    """The epochs of a log's lines, in a search box where one is given."""
     head = next(lines, None)
     if head not in HEADS:
         raise ValueError
     rules = next(lines, "").split(" ")
     if rules[0] != "rules":
         raise ValueError
-    line, searches = next(lines, None), Searches()
+    line, searches = next(lines, None), Searches(search)
     while line is not None:
         words = line.split(" ")
         if words[0] not in ("epoch", "few"):
@@ -272,15 +273,16 @@ def open_text(path: PathLike) -> TextIO:
     return open(path, encoding="ascii", errors="replace", newline="\n")
 
 
-def epochs(path: PathLike) -> Iterator[Epoch]:
+def epochs(path: PathLike, search: Box | None = None) -> Iterator[Epoch]:
     """The epochs of the log at `path`, in order.
 
-    LogError where it isn't a log, or ends within an epoch.
+    `search` is the search box of the settings, where the log doesn't begin with it: that of a track which goes on from
+    an earlier log. LogError where it isn't a log, or ends within an epoch.
     """
     with open_text(path) as file:
         lines = Numbered(file)
         try:
-            yield from blocks(iter(lines))
+            yield from blocks(iter(lines), search)
         except EOFError:
             where = f"{path} ends within an epoch, at line {lines.count}"
             raise LogError(f"{where}: its run was ended early") from None

@@ -2,9 +2,14 @@
 
 from __future__ import annotations
 
-from gpscover.log import PathLike
-from gpscover.settings import Settings
+import re
+from fractions import Fraction
 
+from gpscover.errors import Error
+from gpscover.log import UM_PER_M, Box, PathLike
+from gpscover.settings import Settings, Three
+
+COORDINATE = re.compile(r"[+-]?[0-9]{1,8}\.[0-9]{1,4}", re.ASCII)  # of a position, in m
 SYSTEMS = {"G": "GPS", "E": "Galileo"}
 
 
@@ -37,6 +42,30 @@ def types_of(path: PathLike) -> dict[str, list[str]]:
             elif label == "END OF HEADER":
                 break
     return types
+
+
+def header_position(path: PathLike) -> Three | None:
+    """The position in the header of a file, in um; None where it has none."""
+    with open(path, encoding="ascii", errors="replace") as file:
+        for line in file:
+            label = line[60:].strip()
+            if label == "APPROX POSITION XYZ":
+                words = [line[k : k + 14].strip() for k in (0, 14, 28)]
+                if not all(map(COORDINATE.fullmatch, words)):
+                    return None
+                x, y, z = (round(UM_PER_M * Fraction(word)) for word in words)
+                return x, y, z
+            if label == "END OF HEADER":
+                break
+    return None
+
+
+def search_of(settings: PathLike, obs: PathLike | None) -> Box:
+    """The search box of a file of settings, whose middle may be the position in the header of a file of observations."""
+    box = Settings.read(settings).search_box(None if obs is None else header_position(obs))
+    if box is None:
+        raise Error(f"{settings}: the middle of the search box is in the header of a file, which --obs names")
+    return box
 
 
 def absent_codes(path: PathLike, settings: Settings) -> list[str]:

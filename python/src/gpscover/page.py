@@ -7,7 +7,7 @@ The page has a table and a time line of all epochs with the numbers of `gpslog s
 that is chosen its boxes in three dimensions, the outline of all its boxes from three sides, the sky
 with its satellites, the declared errors and the satellites that aren't used with the reason; a map
 sheet with the outline of each region in latitude and longitude; and the settings, if they are
-given. A click on a head of the table sorts it. With a list of known places the table has of each epoch
+given, whose search box is that of a track which goes on from an earlier log. A click on a head of the table sorts it. With a list of known places the table has of each epoch
 whether its region holds the place, and the farthest corner from it along the ground, and up or down, as
 `gpslog summary --places` has them. With files of zones it has what each epoch says of each zone, or of
 those that --zone names (`gpslog answers`), and the map sheet has their outlines. Several logs are the
@@ -52,6 +52,7 @@ from gpscover.log import UM_PER_M, Box, Epoch, PathLike, Rules, epochs, rules_of
 from gpscover.outline import Flat, outlines
 from gpscover.places import Meetings
 from gpscover.region import Region, hull_of, region_or_none
+from gpscover.settings import Settings, SettingsError
 from gpscover.summary import COLUMNS, Totals, csv_line, mark_of, text_cells
 from gpscover.zones import chosen_zones, zone_arguments
 
@@ -279,14 +280,14 @@ class Collected:
 
 
 def collect(
-    paths: Sequence[PathLike], first: float, last: float, room: int, beside: Beside
+    paths: Sequence[PathLike], first: float, last: float, room: int, beside: Beside, search: Box | None = None
 ) -> tuple[Collected, str | None]:
     """What the logs have of the epochs from a number to another, and the line for a log that ends
-    too early, or None."""
+    too early, or None. `search` is as `log.epochs` has it."""
     collected = Collected(room, beside)
     try:
         for path in paths:
-            for epoch in epochs(path):
+            for epoch in epochs(path, search):
                 if first <= epoch.index <= last:
                     collected.add(epoch)
     except LogError as error:
@@ -294,6 +295,14 @@ def collect(
             raise
         return collected, str(error)
     return collected, None
+
+
+def search_in(text: str | None) -> Box | None:
+    """The search box of the settings that are shown, where they are some."""
+    try:
+        return None if text is None else Settings.from_toml(text).search_box()
+    except SettingsError:
+        return None
 
 
 def settings_differ(text: str, rules: Rules) -> Iterator[str]:
@@ -374,7 +383,7 @@ def make_page(args: argparse.Namespace) -> str | None:
     settings = Path(args.settings).read_text(encoding="utf-8", errors="replace") if args.settings else None
     room = PAGE_LIMIT - sum(len(part.encode()) for part in parts.values())
     beside = beside_of(args)
-    collected, broken = collect(args.log, args.first or 0, args.last or math.inf, room, beside)
+    collected, broken = collect(args.log, args.first or 0, args.last or math.inf, room, beside, search_in(settings))
     if beside.judge:
         beside.judge.meetings.refuse_strangers()
     data = page_data(args, collected, rules, settings, broken)
@@ -399,7 +408,9 @@ def arguments(parser: argparse.ArgumentParser) -> None:
     """The words of the command line."""
     parser.add_argument("log", metavar="LOG", nargs="+", help="a log, or the logs of a file's parts in their order")
     parser.add_argument("out", metavar="OUT.html", type=name_ending(".html", ".htm", told=".html"))
-    parser.add_argument("--settings", metavar="FILE", help="the settings of the run, to be shown")
+    parser.add_argument(
+        "--settings", metavar="FILE", help="the settings of the run, to be shown and for the search box"
+    )
     parser.add_argument("--places", metavar="FILE", help="a list of known places")
     limit_argument(parser)
     zone_arguments(parser, required=False)

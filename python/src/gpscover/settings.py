@@ -10,6 +10,7 @@ from dataclasses import dataclass, field, fields
 from pathlib import Path
 from typing import Any
 
+from gpscover.epoch import UM_PER_MM, Box
 from gpscover.errors import Error
 from gpscover.log import PathLike
 
@@ -92,6 +93,19 @@ class Settings:
     satellites: dict[str, Pair] = field(default_factory=dict)
     station: Station | None = None
     restart: bool = False
+
+    def search_box(self, header: Three | None = None) -> Box | None:
+        """The search box in um. `header` is the position in um in the receiver's header; None where that is needed.
+        SettingsError where the settings have no such box."""
+        centre, half = self.search.centre, self.search.half
+        try:
+            middle = header if isinstance(centre, str) else three_um(centre)
+            sides = three_um(half)
+        except (TypeError, ValueError):
+            raise SettingsError("these are no settings: the search box has no three middles and half sides") from None
+        if middle is None:
+            return None
+        return Box(*(at - side for at, side in zip(middle, sides)), *(at + side for at, side in zip(middle, sides)))
 
     def to_toml(self) -> str:
         """The text of a file of settings."""
@@ -179,6 +193,12 @@ def frozen(value: Any) -> Any:
     if isinstance(value, list):
         return tuple(map(member, value))
     return value if isinstance(value, (str, bool)) else whole(value)
+
+
+def three_um(value: Any) -> Three:
+    """Three lengths in mm, or one for all three, in um."""
+    x, y, z = (value, value, value) if isinstance(value, int) else value
+    return UM_PER_MM * whole(x), UM_PER_MM * whole(y), UM_PER_MM * whole(z)
 
 
 def pair(value: Any) -> Pair:

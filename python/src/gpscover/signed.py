@@ -11,7 +11,7 @@ from collections.abc import Iterator
 
 from gpscover.geodesy import geodetic
 from gpscover.log import UM_PER_M, Box, Epoch, PathLike, calendar, epochs
-from gpscover.region import region_or_none, upward
+from gpscover.region import hull_of, region_or_none, upward
 from gpscover.settings import Pair, Settings, keys_of
 
 Line = tuple[str, str]  # name, and what is said
@@ -30,8 +30,8 @@ def span(bound: Pair) -> str:
 class Seen:
     """What a log has of what is declared: its search box, and which satellites it uses."""
 
-    def __init__(self, log: PathLike) -> None:
-        self.search: Box | None = None
+    def __init__(self, log: PathLike, search: Box | None = None) -> None:
+        self.search = search
         self.satellites: set[str] = set()
         for epoch in epochs(log):
             self.search = self.search or epoch.search
@@ -41,8 +41,26 @@ class Seen:
         """The search box."""
         if self.search is None:
             return "of the settings"
-        ends = zip("xyz", self.search.low, self.search.high)
-        return ", ".join(f"{axis} {low / UM_PER_M:.6f} to {high / UM_PER_M:.6f}" for axis, low, high in ends) + " m"
+        return box_words(self.search)
+
+
+def box_words(box: Box) -> str:
+    """A box in um as metres."""
+    ends = zip("xyz", box.low, box.high)
+    return ", ".join(f"{axis} {low / UM_PER_M:.6f} to {high / UM_PER_M:.6f}" for axis, low, high in ends) + " m"
+
+
+def left_by(after: PathLike) -> Line:
+    """Where a track begins that goes on from an earlier log: what that one's last paved epoch leaves."""
+    last: Epoch | None = None
+    for epoch in epochs(after):
+        last = last if epoch.few else epoch
+    if last is None or not last.kept:
+        return "began", "anywhere in the search box, since earlier.log leaves no box by its last paved epoch"
+    return "began", (
+        f"at {calendar(last.ps)} GPS time in the earth-fixed box {box_words(hull_of(last.boxes))}, which earlier.log leaves,"
+        " and came from there at the declared speed; whether it was there is told by what is signed of earlier.log"
+    )
 
 
 def bound_words(settings: Settings) -> str:
@@ -86,9 +104,9 @@ def epoch_words(epoch: Epoch) -> str:
     )
 
 
-def epoch_lines(log: PathLike) -> Iterator[Line]:
-    """A line for each epoch of a log."""
-    for epoch in epochs(log):
+def epoch_lines(log: PathLike, search: Box | None = None) -> Iterator[Line]:
+    """A line for each epoch of a log. `search` is as `log.epochs` has it."""
+    for epoch in epochs(log, search):
         yield f"epoch-{epoch.index}", epoch_words(epoch)
 
 
@@ -99,6 +117,9 @@ LIMITS = (
 )
 
 
-def claim_lines(settings: Settings, log: PathLike, track: bool) -> list[Line]:
-    """What is signed."""
-    return [("claim", CLAIM), *declared(settings, Seen(log), track), ("limits", LIMITS)]
+def claim_lines(
+    settings: Settings, log: PathLike, track: bool, after: PathLike | None = None, search: Box | None = None
+) -> list[Line]:
+    """What is signed. A track that goes on from an earlier log is given that one, and the search box of the settings."""
+    more = [] if after is None else [left_by(after)]
+    return [("claim", CLAIM), *declared(settings, Seen(log, search), track), *more, ("limits", LIMITS)]

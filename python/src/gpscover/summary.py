@@ -1,6 +1,6 @@
 """Prints a line for each epoch of a log of gpscover, and what an empty or a cut region hides.
 
-usage: gpslog summary LOG [--csv | --box] [--kml FILE] [--strict] [--obs OBS]
+usage: gpslog summary LOG [--csv | --box] [--kml FILE] [--strict] [--obs OBS] [--settings SETTINGS]
                       [--places FILE [--azimuth A | --along FILE] [--limit H V]]
 
 A line has the epoch's number, its time of reception by the receiver's clock as a GPS date, the
@@ -18,6 +18,8 @@ so, with --csv in a column of its own in a log that may have bounds. A mark behi
 Epochs with a mark are warned of at the end. A log is taken for one of `track` where the search
 boxes of its epochs lie in the
 first one and differ from it; `reaches` speaks of the first one then, which is that of the settings.
+A track that goes on from an earlier log (--after) begins in a smaller one: --settings names its
+settings, whose search box is taken then.
 
 --csv prints the same as comma-separated values, with the mark `ok` where there is none. --box
 prints the least search box that holds the kept boxes of all epochs, as lines of the settings. Both
@@ -54,11 +56,12 @@ from typing import TextIO
 
 from gpscover import kml
 from gpscover.command import Command, measure, whole_file
+from gpscover.epoch import UM_PER_MM
 from gpscover.errors import Error, UsageError
 from gpscover.geodesy import geodetic
 from gpscover.integrity import Judge, Limits, Numbers, limit_argument
 from gpscover.log import PS_PER_MS, UM_PER_M, Box, Epoch, PathLike, SkipReason, calendar, epochs, has_bounds
-from gpscover.observations import file_epochs
+from gpscover.observations import file_epochs, search_of
 from gpscover.places import Meetings, read_places
 from gpscover.region import Region, hull_of, region_or_none, upward
 
@@ -92,7 +95,6 @@ HINTS = {
 ONE_MESSAGE = "; only records of F/NAV are taken, or by galileo.message those of I/NAV"
 GALILEO_HINTS = HINTS | dict.fromkeys((SkipReason.NO_EPHEMERIS, SkipReason.NOT_NEAR_IN_TIME), ONE_MESSAGE)
 EARTH_M = (6_300_000, 6_500_000)
-UM_PER_MM = 1000
 MOST_HALF_MM = 100_000_000  # the settings' limit
 LEFT = (
     "or the receiver had left the search box; a box that a receiver leaves makes its regions small"
@@ -341,14 +343,18 @@ class Totals:
 
 
 def summarize(
-    path: PathLike, write_line: WriteLine, outlines: TextIO | None = None, judge: Judge | None = None
+    path: PathLike,
+    write_line: WriteLine,
+    outlines: TextIO | None = None,
+    judge: Judge | None = None,
+    search: Box | None = None,
 ) -> Totals:
-    """Goes through a log once, and hands each epoch's line to `write_line`.
+    """Goes through a log once, and hands each epoch's line to `write_line`. `search` is as `log.epochs` has it.
 
     What is to be said of all.
     """
     totals = Totals()
-    for epoch in epochs(path):
+    for epoch in epochs(path, search):
         region = region_or_none(epoch)
         mark = mark_of(epoch, region)
         totals.add(epoch, mark)
@@ -379,6 +385,7 @@ def arguments(parser: argparse.ArgumentParser) -> None:
     parser.add_argument("--kml", metavar="FILE", help="write the outline of each region to FILE")
     parser.add_argument("--strict", action="store_true", help=f"end with {STRICT} where there is a warning")
     parser.add_argument("--obs", metavar="OBS", help="say how many epochs of this observation file the log covers")
+    parser.add_argument("--settings", metavar="SETTINGS", help="take the search box of these settings")
     parser.add_argument("--places", metavar="FILE", help="a list of known places")
     place_arguments(parser)
 
@@ -395,6 +402,11 @@ def judge_of(args: argparse.Namespace) -> Judge | None:
     return Judge(Meetings.of(args.places), azimuth, track, limits)
 
 
+def searched_in(args: argparse.Namespace) -> Box | None:
+    """The search box of the settings that the words name, or None."""
+    return None if args.settings is None else search_of(args.settings, args.obs)
+
+
 def print_text(args: argparse.Namespace, outlines: TextIO | None, judge: Judge | None) -> Totals:
     """Prints the lines and what is to be said of all epochs. The warnings."""
     print(HEAD + (place_head(judge) if judge else ""))
@@ -402,7 +414,7 @@ def print_text(args: argparse.Namespace, outlines: TextIO | None, judge: Judge |
     def write(epoch: Epoch, region: Region | None, mark: str, found: Numbers | None) -> None:
         print(text_line(epoch, region, mark, place_text(judge, found) if judge else ""))
 
-    totals = summarize(args.log, write, outlines, judge)
+    totals = summarize(args.log, write, outlines, judge, searched_in(args))
     print(totals.line())
     if args.obs is not None:
         print(totals.covered(args.obs))
@@ -425,12 +437,13 @@ def csv_writer(file: TextIO, log: PathLike, judge: Judge | None = None) -> Write
 
 def print_csv(args: argparse.Namespace, outlines: TextIO | None, judge: Judge | None) -> Totals:
     """Prints the values of all epochs."""
-    return summarize(args.log, csv_writer(sys.stdout, args.log, judge), outlines, judge)
+    write = csv_writer(sys.stdout, args.log, judge)
+    return summarize(args.log, write, outlines, judge, searched_in(args))
 
 
 def print_box(args: argparse.Namespace, outlines: TextIO | None, judge: Judge | None) -> Totals:
     """Prints the box round all kept boxes."""
-    totals = summarize(args.log, lambda *of_epoch: None, outlines, judge)
+    totals = summarize(args.log, lambda *of_epoch: None, outlines, judge, searched_in(args))
     print(*totals.box_lines(), sep="\n")
     if max(totals.box()[1]) > MOST_HALF_MM:
         print("warning: half is more than the 100 km that settings allow", file=sys.stderr)
