@@ -131,7 +131,11 @@ fn ends(held: Result<Wide, Range>) -> Option<(i128, i128)> {
 #[test]
 fn units_hold_the_decimal(rt: HostRuntime) -> Result<(), Fail> {
     for &(digits, ten, unit, held) in &IN_UNITS {
-        assert_eq!(rt; ends(to_unit(Decimal { digits, ten }, unit)), held, "of {digits}");
+        assert_eq!(rt;
+            ends(to_unit(Decimal { digits, ten }, unit)),
+            held,
+            "of {digits}"
+        );
     }
     Ok(())
 }
