@@ -88,8 +88,8 @@ fn other_fields_are_bad_numbers(rt: HostRuntime) -> Result<(), Fail> {
     Ok(())
 }
 
-/// The digits and the power of ten of a decimal, a unit, and the whole numbers of the unit round the
-/// decimal, or none where it is out of the unit's range.
+/// The digits and the power of ten of a decimal, a unit, and the whole numbers of the unit round
+/// the decimal, or none where it is out of the unit's range.
 static IN_UNITS: [(i64, i8, Unit, Option<(i128, i128)>); 12] = [
     (-1250, -2, Unit::Length, Some((-12_500_000, -12_500_000))),
     (
