@@ -103,13 +103,48 @@ const WIDE: &str = "renew -8000001 -1000000 -1000000 8000000 1000000 1000000\n";
 
 /// The first line, that of the renewal and those of its rows, and what is found.
 static CASES: [(&str, &str, [&str; 4], Want); 8] = [
-    ("gpscover 2\n", LEFT, [FIRST, SECOND, THIRD, LAST], Want::Yes),
-    ("gpscover 3\n", LEFT, [FIRST, SECOND, THIRD, LAST], Want::Yes),
-    ("gpscover 1\n", LEFT, [FIRST, SECOND, THIRD, LAST], Want::NoLog(11, 2)),
-    ("gpscover 2\n", NARROW, [FIRST, SECOND, THIRD, LAST], Want::No(65, 11)),
-    ("gpscover 2\n", WIDE, [FIRST, SECOND, THIRD, LAST], Want::No(65, 11)),
-    ("gpscover 2\n", LEFT, [FIRST, SECOND, THIRD, ""], Want::NoLog(15, 2)),
-    ("gpscover 2\n", LEFT, [OTHER, SECOND, THIRD, LAST], Want::No(52, 12)),
+    (
+        "gpscover 2\n",
+        LEFT,
+        [FIRST, SECOND, THIRD, LAST],
+        Want::Yes,
+    ),
+    (
+        "gpscover 3\n",
+        LEFT,
+        [FIRST, SECOND, THIRD, LAST],
+        Want::Yes,
+    ),
+    (
+        "gpscover 1\n",
+        LEFT,
+        [FIRST, SECOND, THIRD, LAST],
+        Want::NoLog(11, 2),
+    ),
+    (
+        "gpscover 2\n",
+        NARROW,
+        [FIRST, SECOND, THIRD, LAST],
+        Want::No(65, 11),
+    ),
+    (
+        "gpscover 2\n",
+        WIDE,
+        [FIRST, SECOND, THIRD, LAST],
+        Want::No(65, 11),
+    ),
+    (
+        "gpscover 2\n",
+        LEFT,
+        [FIRST, SECOND, THIRD, ""],
+        Want::NoLog(15, 2),
+    ),
+    (
+        "gpscover 2\n",
+        LEFT,
+        [OTHER, SECOND, THIRD, LAST],
+        Want::No(52, 12),
+    ),
     ("gpscover 2\n", "", ["", "", "", ""], Want::Yes),
 ];
 

@@ -156,12 +156,7 @@ fn skip(number: u8, test: u8) -> SatEntry {
 }
 
 /// The first and the last epoch that are selected, and how many blocks they have.
-static SELECTIONS: [(u32, u32, usize); 4] = [
-    (2, 2, 1),
-    (1, 1, 1),
-    (3, LAST_EPOCH, 0),
-    (2, 1, 0),
-];
+static SELECTIONS: [(u32, u32, usize); 4] = [(2, 2, 1), (1, 1, 1), (3, LAST_EPOCH, 0), (2, 1, 0)];
 
 #[test]
 fn a_selection_takes_its_epochs_alone(rt: HostRuntime) -> Result<(), Fail> {

@@ -135,9 +135,27 @@ type Piece = (
 );
 
 static PIECES: [Piece; 8] = [
-    (2_000, WHOLE, None, (ROWS, STEPS), (FIRST_REPORT, MORE_REPORT)),
-    (100, WHOLE, Some(WriteFault::Full), (HEAD, ""), (FIRST_REPORT, "")),
-    (28, WHOLE, Some(WriteFault::Full), ("gpscover 1\n", ""), ("", "")),
+    (
+        2_000,
+        WHOLE,
+        None,
+        (ROWS, STEPS),
+        (FIRST_REPORT, MORE_REPORT),
+    ),
+    (
+        100,
+        WHOLE,
+        Some(WriteFault::Full),
+        (HEAD, ""),
+        (FIRST_REPORT, ""),
+    ),
+    (
+        28,
+        WHOLE,
+        Some(WriteFault::Full),
+        ("gpscover 1\n", ""),
+        ("", ""),
+    ),
     (0, WHOLE, Some(WriteFault::Full), ("", ""), ("", "")),
     (
         2_000,

@@ -88,8 +88,8 @@ fn other_fields_are_bad_numbers(rt: HostRuntime) -> Result<(), Fail> {
     Ok(())
 }
 
-/// The digits and the power of ten of a decimal, a unit, and the whole numbers of the unit round the
-/// decimal, or none where it is out of the unit's range.
+/// The digits and the power of ten of a decimal, a unit, and the whole numbers of the unit round
+/// the decimal, or none where it is out of the unit's range.
 static IN_UNITS: [(i64, i8, Unit, Option<(i128, i128)>); 12] = [
     (-1250, -2, Unit::Length, Some((-12_500_000, -12_500_000))),
     (
@@ -131,7 +131,11 @@ fn ends(held: Result<Wide, Range>) -> Option<(i128, i128)> {
 #[test]
 fn units_hold_the_decimal(rt: HostRuntime) -> Result<(), Fail> {
     for &(digits, ten, unit, held) in &IN_UNITS {
-        assert_eq!(rt; ends(to_unit(Decimal { digits, ten }, unit)), held, "of {digits}");
+        assert_eq!(rt;
+            ends(to_unit(Decimal { digits, ten }, unit)),
+            held,
+            "of {digits}"
+        );
     }
     Ok(())
 }

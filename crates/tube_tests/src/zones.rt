@@ -91,7 +91,11 @@ static SIDES: [(&str, usize, Result<usize, u32>); 6] = [
 #[test]
 fn a_prism_has_as_many_sides_as_it_says_from_1_to_16(rt: HostRuntime) -> Result<(), Fail> {
     for &(said, count, want) in &SIDES {
-        assert_eq!(rt; read_sides(rt.alloc(), said, count)?, want, "at {said} {count}");
+        assert_eq!(rt;
+            read_sides(rt.alloc(), said, count)?,
+            want,
+            "at {said} {count}"
+        );
     }
     Ok(())
 }
@@ -229,12 +233,28 @@ fn found(alloc: Global, lines: &str, kept: Kept) -> Result<Option<Finding>, Fail
 /// Lines, boxes, and what these say without bounds.
 static CORNERS: [(&str, Kept, ZoneAnswer); 12] = [
     // a slanted side that touches a corner
-    ("prism a 1\nside 1 1 1 -4\n", Kept::Middle, ZoneAnswer::Outside),
+    (
+        "prism a 1\nside 1 1 1 -4\n",
+        Kept::Middle,
+        ZoneAnswer::Outside,
+    ),
     ("prism a 1\nside 1 1 1 -3\n", Kept::Middle, ZoneAnswer::Open),
     ("prism a 1\nside 1 1 1 2\n", Kept::Middle, ZoneAnswer::Open),
-    ("prism a 1\nside 1 1 1 3\n", Kept::Middle, ZoneAnswer::Inside),
-    ("prism a 1\nside -2 0 1 3\n", Kept::Middle, ZoneAnswer::Inside),
-    ("prism a 1\nside -2 0 1 3\n", Kept::Nothing, ZoneAnswer::Outside),
+    (
+        "prism a 1\nside 1 1 1 3\n",
+        Kept::Middle,
+        ZoneAnswer::Inside,
+    ),
+    (
+        "prism a 1\nside -2 0 1 3\n",
+        Kept::Middle,
+        ZoneAnswer::Inside,
+    ),
+    (
+        "prism a 1\nside -2 0 1 3\n",
+        Kept::Nothing,
+        ZoneAnswer::Outside,
+    ),
     // each box must answer so
     (
         "prism a 1\nside 1 1 1 3\n",
@@ -363,32 +383,76 @@ fn found_cut(alloc: Global, lines: &str, cut: Option<Cut>) -> Result<Option<Find
 /// Lines, bounds, and what the box from -1 to 1 says within these.
 static CUTS: [(&str, Option<Cut>, ZoneAnswer); 15] = [
     // the bound itself, and what lies beyond it
-    ("prism a 1\nside 1 1 0 0\n", Some(Cut::Slanted), ZoneAnswer::Inside),
+    (
+        "prism a 1\nside 1 1 0 0\n",
+        Some(Cut::Slanted),
+        ZoneAnswer::Inside,
+    ),
     ("prism a 1\nside 1 1 0 0\n", None, ZoneAnswer::Open),
-    ("prism a 1\nside 1 1 0 -1\n", Some(Cut::Slanted), ZoneAnswer::Open),
+    (
+        "prism a 1\nside 1 1 0 -1\n",
+        Some(Cut::Slanted),
+        ZoneAnswer::Open,
+    ),
     (
         "prism a 1\nside -1 -1 0 -1\n",
         Some(Cut::Slanted),
         ZoneAnswer::Outside,
     ),
-    ("prism a 1\nside -1 -1 0 0\n", Some(Cut::Slanted), ZoneAnswer::Open),
+    (
+        "prism a 1\nside -1 -1 0 0\n",
+        Some(Cut::Slanted),
+        ZoneAnswer::Open,
+    ),
     // the greatest 2 x + y is 1, at x = 1 and y = -1
-    ("prism a 1\nside 2 1 0 1\n", Some(Cut::Slanted), ZoneAnswer::Inside),
-    ("prism a 1\nside 2 1 0 0\n", Some(Cut::Slanted), ZoneAnswer::Open),
+    (
+        "prism a 1\nside 2 1 0 1\n",
+        Some(Cut::Slanted),
+        ZoneAnswer::Inside,
+    ),
+    (
+        "prism a 1\nside 2 1 0 0\n",
+        Some(Cut::Slanted),
+        ZoneAnswer::Open,
+    ),
     (
         "prism a 1\nside -2 -1 0 -2\n",
         Some(Cut::Slanted),
         ZoneAnswer::Outside,
     ),
-    ("prism a 1\nside -2 -1 0 -1\n", Some(Cut::Slanted), ZoneAnswer::Open),
+    (
+        "prism a 1\nside -2 -1 0 -1\n",
+        Some(Cut::Slanted),
+        ZoneAnswer::Open,
+    ),
     // the points that box and zone share
-    ("zone a 0 1 -9 9 9 9\n", Some(Cut::Slanted), ZoneAnswer::Outside),
-    ("zone a 0 0 -9 9 9 9\n", Some(Cut::Slanted), ZoneAnswer::Open),
-    ("zone a -9 -9 -9 0 9 9\n", Some(Cut::Halved), ZoneAnswer::Inside),
+    (
+        "zone a 0 1 -9 9 9 9\n",
+        Some(Cut::Slanted),
+        ZoneAnswer::Outside,
+    ),
+    (
+        "zone a 0 0 -9 9 9 9\n",
+        Some(Cut::Slanted),
+        ZoneAnswer::Open,
+    ),
+    (
+        "zone a -9 -9 -9 0 9 9\n",
+        Some(Cut::Halved),
+        ZoneAnswer::Inside,
+    ),
     ("zone a -9 -9 -9 0 9 9\n", Some(Cut::All), ZoneAnswer::Open),
     // nothing is left
-    ("zone a -9 -9 -9 9 9 9\n", Some(Cut::Nothing), ZoneAnswer::Outside),
-    ("prism a 1\nside 0 0 1 5\n", Some(Cut::Nothing), ZoneAnswer::Outside),
+    (
+        "zone a -9 -9 -9 9 9 9\n",
+        Some(Cut::Nothing),
+        ZoneAnswer::Outside,
+    ),
+    (
+        "prism a 1\nside 0 0 1 5\n",
+        Some(Cut::Nothing),
+        ZoneAnswer::Outside,
+    ),
 ];
 
 #[test]
