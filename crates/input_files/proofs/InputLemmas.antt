@@ -1,5 +1,5 @@
 -- What the files of a receiver give may be broken off as what any reading reads.
-use Rattle.std.proofs.Common.{◌≡◌, ℕ, Bool, List, Option, None, Some, sym, ◌∙◌}
+use Rattle.std.proofs.Common.{◌≡◌, ℕ, Bool, List, Option, None, Some, Result, sym, subst, ◌∙◌}
 use Rattle.std.specs.Prelude.{is_some}
 use Rattle.command_words.specs.Commands.{Files}
 use Rattle.error_bounds.specs.Reading.{IsRoot}
@@ -15,8 +15,11 @@ use Rattle.input_files.specs.Inputs.{InputsValue, ReadsAfter, ReadsBehind, Reads
 use Rattle.input_files.specs.Inputs.{search_box, search_of}
 use Rattle.input_files.specs.Inputs.{message_of, nav_text, obs_text, sought_of}
 use Rattle.input_files.specs.Inputs.{settings_text, station_text, wants_position}
-use Rattle.input_files.specs.Reading.{Named, Returns}
+use Rattle.moving_tube.specs.Roots.{Before}
+use Rattle.outer_io.specs.Told.{ShelfState}
+use Rattle.input_files.specs.Reading.{Found, Named, Returns}
 use Rattle.input_files.specs.declared.limits.Limits.{Limits}
+use Rattle.input_files.specs.declared.notice.Notice.{Notice}
 
 pub station_fair : (limits : Limits) (sought : Sought) (name : Option (List ℕ))
     (declared : Option settings.StationValue) → IsFair (ReadsStation limits sought name declared)
@@ -77,3 +80,11 @@ box_is (Some p) half box is = is
 pub box_one : (centre : Option Pos) (half : Pos) (box other : GridBox) → IsRoot centre half box
     → IsRoot centre half other → box ≡ other
 box_one centre half box other is also = box_is centre half box is ∙ sym (box_is centre half other also)
+
+-- what was found in the box that the settings give was found in that of the files
+pub after_found : (limits : Limits) (name : Option (List ℕ)) (centre : Option Pos) (half : Pos) (box : GridBox)
+    (a b : ShelfState) (reliable : Option (List ℕ) → Type 0) (r : Result (Option Before) Notice)
+    → IsRoot centre half box → Found (ReadsAfter limits box name) a b reliable r
+    → Found (ReadsAfter limits (search_box centre half) name) a b reliable r
+after_found limits name centre half box a b reliable r is found =
+    subst (λ (c : GridBox). Found (ReadsAfter limits c name) a b reliable r) (box_is centre half box is) found

@@ -235,6 +235,15 @@ only_as xs a b v w only = record {
   later = only.later;
 }
 
+-- of another value, which wasn't read either
+pub only_err_as : {V W : Type 0} (xs : NamedSlots) (a b : ShelfState) (n : Notice)
+    → OnlyReads {V = V} xs a b (Err n) → OnlyReads {V = W} xs a b (Err n)
+only_err_as xs a b n only = record {
+  untouched = only.untouched;
+  ends = only.ends;
+  later = only.later;
+}
+
 -- nothing was read
 pub only_nothing : {V : Type 0} (a : ShelfState) (v : V) → OnlyReads [] a a (Ok v)
 only_nothing a v = record {
