@@ -1,5 +1,5 @@
 //! Tests alone: the words of a log, its text and what it says, its report, how both are written,
-//! and the rows that it begins with.
+//! the rows that it begins with, and the laws of what a paving leaves undone.
 #![tactic(auto)]
 
 #[cfg(test)]
@@ -14,6 +14,8 @@ mod renewed;
 mod report;
 #[cfg(test)]
 mod rows;
+#[cfg(test)]
+mod sharpness;
 #[cfg(test)]
 mod words;
 #[cfg(test)]

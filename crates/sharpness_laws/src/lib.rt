@@ -3,7 +3,5 @@
 #![tactic(auto)]
 
 mod laws;
-#[cfg(test)]
-mod tests;
 
 pub use laws::{clear_boxes_are_shown, logs_leave_nothing_clear, runs_leave_nothing_clear};

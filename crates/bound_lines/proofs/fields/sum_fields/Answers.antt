@@ -97,6 +97,6 @@ pub returns : goal.returns
 returns c = (
   tt,
   whole _ _ _ _ _ _ _ c.in_ok-aim.aim _ c.in_ok-first.first c.in_ok-second.second c.in_ok-third.third c.in_ok-fourth.fourth c.in_ok-fifth.fifth
-  c.in_ok-aim.ensures.1 c.in_ok-first.ensures.1 c.in_ok-second.ensures.1 c.in_ok-third.ensures.1 c.in_ok-fourth.ensures.1 c.in_ok-fifth.ensures.1
-  (c.is_ended.ensures.0 c.if-not-is_ended.false) (aim_is _ c.in_ok-aim.ensures.0),
+      c.in_ok-aim.ensures.1 c.in_ok-first.ensures.1 c.in_ok-second.ensures.1 c.in_ok-third.ensures.1 c.in_ok-fourth.ensures.1 c.in_ok-fifth.ensures.1
+      (c.is_ended.ensures.0 c.if-not-is_ended.false) (aim_is _ c.in_ok-aim.ensures.0),
 )

@@ -1,7 +1,7 @@
-//! The laws hold for the rows of GPS satellites.
+//! The laws of sharpness hold for the rows of GPS satellites.
 
-use crate::{clear_boxes_are_shown, logs_leave_nothing_clear, runs_leave_nothing_clear};
 use sat_rows::GpsRows;
+use sharpness_laws::{clear_boxes_are_shown, logs_leave_nothing_clear, runs_leave_nothing_clear};
 
 #[test]
 fn laws_hold_for_gps_rows() {
