@@ -197,3 +197,10 @@ module _ (station : Station) (tag : ℤ) (count : ℕ) (rising : AreRising stati
       (λ (s : l.apart ≤ e.apart). subst (λ (x : Near). IsAnswer (Some x)) (sym (is.second s))
       (late_wins l b.0 b.1 (λ j f other h g. let least = early_least e a.0 a.1 j f other h g in omega (arith, s, least))))
       (cases_lt e.apart l.apart)
+
+-- the last of so many is that at the place before
+pub last_by : (station : Station) (tag : ℤ) (count place : ℕ) (near : Option Near) → place + 1 ≡ count
+    → IsAtPlace station tag place near → IsLastOf station tag count near
+last_by station tag count place None is none =
+    λ i e apart last g. none e apart (subst (λ (k : ℕ). IsInTime station tag k e apart) (omega (arith, is, last)) g)
+last_by station tag count place (Some n) is at = (at.0, omega (arith, is, at.1))
