@@ -2,12 +2,9 @@
 //! they lie within its bounds.
 
 ghost use Rattle.std.specs.Prelude.{◌≡◌, ◌↔◌, ◌<◌, ◌*◌, IsTrue, map, take, drop};
-ghost use Rattle.std.specs.List.{AllByRecursion};
 ghost use Rattle.grid_model.specs.Boxes.{grid_box};
-ghost use Rattle.zone_guard.specs.Beyond.{IsSoOfOne};
 ghost use Rattle.zone_guard.specs.GroupAnswers.{AreOutOfAll, LieInOne, LiesInOne, IsGroupAnswer};
 ghost use Rattle.zone_guard.specs.Planes.{plane_values};
-ghost use Rattle.zone_guard.specs.PrismAnswers.{AreShutOut, IsEnclosed};
 ghost use Rattle.zone_guard.specs.WatchValues.{group_pieces};
 
 use crate::pieces::Group;

@@ -1,7 +1,7 @@
-use Rattle.std.proofs.Common.{List, refl, sym, map, ◌∙◌}
+use Rattle.std.proofs.Common.{refl, sym, map, ◌∙◌}
 use Rattle.std.proofs.lemmas.Bool.{false≢true}
 use Rattle.grid_model.specs.Boxes.{grid_box}
-use Rattle.zone_guard.specs.Planes.{PlaneValue, plane_values}
+use Rattle.zone_guard.specs.Planes.{plane_values}
 use Rattle.zone_guard.specs.PrismAnswers.{AreShutOut}
 use Rattle.zone_guard.proofs.GroupLemmas.{piece_next, piece_not, pieces_held}
 use Rattle.zone_guard.proofs.groups.are_out_of_all.Goals as goal
