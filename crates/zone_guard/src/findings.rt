@@ -16,8 +16,8 @@ use crate::watch::{Form, Watch};
 use grid_model::Box3;
 
 /// What these boxes say, as far as they lie within these bounds: of a zone whether each of them lies
-/// in it, or in one of its pieces, or none meets it; and of a direction the least and the greatest product of it and a point of
-/// the boxes, in um times its length.
+/// in it, or in one of its pieces, or none meets it; and of a direction the least and the greatest
+/// product of it and a point of the boxes, in um times its length.
 pub fn found_in(watch: &Watch, bounds: &[HalfSpace], boxes: &[Box3]) -> Finding
     ensures { IsFinding (plane_values bounds.now) (form_value watch.now.form)
         (map grid_box boxes.now) result }

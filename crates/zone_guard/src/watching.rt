@@ -20,7 +20,8 @@ use crate::watch::{Form, Watch};
 use crate::zone::ZoneError;
 use std::alloc::Global;
 
-/// The sides of a prism or a group, so many, from the line of this number on, and what stands behind them.
+/// The sides of a prism or a group, so many, from the line of this number on, and what stands behind
+/// them.
 fn sides_in(
     alloc: Global,
     text: &[u8],
