@@ -124,8 +124,8 @@ pub fn both(alloc: Global, first: &str, second: &str) -> Result<String, AllocErr
     Ok(text)
 }
 
-/// A limit and devices, the fault that ends the writing, if one does, and what the log and the report
-/// hold then, each in two parts.
+/// A limit and devices, the fault that ends the writing, if one does, and what the log and the
+/// report hold then, each in two parts.
 type Piece = (
     u32,
     Devices,
