@@ -329,7 +329,6 @@ class TestRealFiles:
             (b"gpszones 2\nprism a 1\nside 1048577 0 0 5\n", 3),
             (b"gpszones 2\nreach a 0 0 -1048577\n", 2),
             (b"gpszones 2\nprism a 1\nside 1 0 0 100000000000000000001\n", 3),
-            (b"gpszones 2\nreach a 1 0 0 5\n", 2),
             (b"gpszones 1\ngroup a 1 1\nside 1 0 0 5\n", 2),
             (b"gpszones 2\ngroup a 1\nside 1 0 0 5\n", 2),
             (b"gpszones 2\ngroup a 1 1 1\nside 1 0 0 5\n", 2),
@@ -343,6 +342,7 @@ class TestRealFiles:
             (b"gpszones 2\ngroup a 2 1\nside 1 0 0 5\n" + zone, 4),
             (b"gpszones 2\ngroup a 2 1\nside 1 0 0 5\nside 0 0 0 5\n", 4),
             (b"gpszones 2\ngroup a 1 1\nside 1 0 0 5\n" + zone, 4),
+            (b"gpszones 2\nreach a 1 0 0 5\n", 2),
         ):
             self.write("a.zones", text)
             self.expect_nothing_done(words, 3, b"zones 42 BadZones line %d\n" % line)
