@@ -43,19 +43,17 @@ from __future__ import annotations
 
 import argparse
 import itertools
-import json
 import math
 import re
-import xml.etree.ElementTree
 from collections import Counter
 from collections.abc import Callable, Iterable, Sequence
 from fractions import Fraction
-from pathlib import Path
 from typing import Any
 
 from gpscover.command import Command, measure
 from gpscover.geodesy import Frame, Vector, cross, dot, earth_fixed, geodetic, local_axes, whole_product
 from gpscover.log import UM_PER_M, PathLike, epochs
+from gpscover.map_files import places_of
 from gpscover.places import Meetings
 from gpscover.polygons import ShapeError, convex_parts, is_convex, turn_of
 from gpscover.zones import GREATEST, LONGEST, MOST_BYTES, MOST_PIECES, MOST_SIDES, Corners, Group, Side, Whole, Zone
@@ -378,64 +376,6 @@ def leg(start: Vector, end: Vector, half: float, low: float, high: float, beyond
     ]
     faces[4].points += [tops[0], tops[2]]
     return faces, [*shape.values(), *tops]
-
-
-# ---- files
-
-
-def place_of(longitude: object, latitude: object, height: object = 0.0, *_: object) -> Vector:
-    """A place (latitude, longitude, height) of numbers or their texts."""
-    return measure(latitude), measure(longitude), measure(height)
-
-
-def kml_places(text: str, kind: str) -> list[Vector]:
-    """The places of the first line or outer ring of a KML document."""
-    for node in xml.etree.ElementTree.fromstring(text).iter():
-        if node.tag.rpartition("}")[2] == kind:
-            for inner in node.iter():
-                if inner.tag.rpartition("}")[2] == "coordinates":
-                    return [place_of(*word.split(",")) for word in (inner.text or "").split()]
-    return []
-
-
-def json_places(tree: Any, kind: str) -> list[Vector]:
-    """The places of the first line or outer ring of a GeoJSON value."""
-    if isinstance(tree, dict):
-        if tree.get("type") == kind:
-            line = tree["coordinates"][0] if kind == "Polygon" else tree["coordinates"]
-            return [place_of(*position) for position in line]
-        tree = list(tree.values())
-    for part in tree if isinstance(tree, list) else []:
-        found = json_places(part, kind)
-        if found:
-            return found
-    return []
-
-
-def row_places(text: str) -> list[Vector]:
-    """The places of lines `LAT LON [HEIGHT]`."""
-    rows = (line.split() for line in text.splitlines() if line.strip())
-    return [place_of(longitude, latitude, *more) for latitude, longitude, *more in rows]
-
-
-def places_in(text: str, kind: str) -> list[Vector]:
-    """The places (latitude, longitude, height) of a text in one of the three forms."""
-    if text.lstrip().startswith("<"):
-        return kml_places(text, kind)
-    if text.lstrip().startswith("{"):
-        return json_places(json.loads(text), kind)
-    return row_places(text)
-
-
-def places_of(path: PathLike, kind: str) -> list[Vector]:
-    """The places of a file. ShapeError where its text, whatever it is, has none."""
-    try:
-        found = places_in(Path(path).read_text(encoding="utf-8"), kind)
-    except (ValueError, TypeError, LookupError, AttributeError, RecursionError, xml.etree.ElementTree.ParseError):
-        found = []
-    if not found:
-        raise ShapeError(f"{path}: there is no {kind} in it, or not all of its places are numbers")
-    return found
 
 
 # ---- the command
