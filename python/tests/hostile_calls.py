@@ -22,7 +22,9 @@ from gpscover import suspects, zones
 from gpscover.settings import Settings, SettingsError
 
 WORDS = ("nan", "inf", "-1", "1e400", "9" * 5000, "", "x", "\u0661", "\0".replace("\0", "%"), "0/0")
-ZONES = "gpszones 2\nzone a 0 0 0 1 1 1\nprism b 1\nside 0 1 0 0\nreach c 1 0 0\ngroup d 2 1\nside 0 1 0 0\nside 1 0 0 0\n"
+ZONES = (
+    "gpszones 2\nzone a 0 0 0 1 1 1\nprism b 1\nside 0 1 0 0\nreach c 1 0 0\ngroup d 2 1\nside 0 1 0 0\nside 1 0 0 0\n"
+)
 KML = "<kml><LineString><coordinates>138,35 138.01,35</coordinates></LineString></kml>"
 JSON = '{"type": "Polygon", "coordinates": [[[8, 47], [8.01, 47], [8.01, 47.01]]]}'
 BOUNDED = (

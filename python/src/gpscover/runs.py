@@ -137,9 +137,7 @@ def settings_file(settings: PathLike | Settings) -> Iterator[str]:
         yield str(path)
 
 
-def chosen(
-    first: int | None, last: int | None, station: PathLike | None, after: PathLike | None = None
-) -> list[str]:
+def chosen(first: int | None, last: int | None, station: PathLike | None, after: PathLike | None = None) -> list[str]:
     """The words that select epochs, and that name the file of a station and an earlier log."""
     given = {"--from": first, "--to": last, "--station": station, "--after": after}
     return [word for name, it in given.items() if it is not None for word in (name, str(it))]
