@@ -73,8 +73,7 @@ part_inside : (search : Box3) (o : Option Box3) (part : Box3) (answer : Bool) �
 part_inside search None part answer is tests = cc
 part_inside search (Some p) part answer is tests =
     let same : part ≡ p = cc in
-    subst (λ (b : Box3). IsTrue answer ↔ LiesIn (grid_box b) (grid_box search)) same
-    (
+    subst (λ (b : Box3). IsTrue answer ↔ LiesIn (grid_box b) (grid_box search)) same (
       λ yes. inside_lies part (grid_box search) (tests.0 yes),
       λ lies. tests.1 (lies_inside (grid_box part) (grid_box search) lies),
     )

@@ -66,9 +66,12 @@ pub fn is_inside_of(search: &Box3, left: &Option<Kept>) -> bool
     ensures { IsTrue result ↔ IsInsideOf (grid_box search.now) (before_value left.now) }
 {
     match left {
-        Some(Kept {
-            part: Some(part), ..
-        }) => lies_in(part, search),
+        Some(
+            Kept {
+                part: Some(part),
+                ..
+            },
+        ) => lies_in(part, search),
         _ => true,
     }
 }
