@@ -3,7 +3,7 @@ use Rattle.std.proofs.Common.{◌≡◌, ◌⊎◌, ℕ, List, [], ◌∷◌, Op
 use Rattle.std.specs.Prelude.{IfErr, IfOk}
 use Rattle.std.specs.List.{AllByRecursion}
 use Rattle.grid_model.specs.Boxes.{GridBox}
-use Rattle.log_lines.specs.Text.{BlockFits, IsLogText, LogFits}
+use Rattle.log_lines.specs.Text.{BlockFits, IsLogText}
 use Rattle.log_lines.specs.Order.{form_of}
 use Rattle.log_lines.specs.declared.line.Form.{Form}
 use Rattle.log_lines.specs.declared.line.Kind.TheVariants as kind
@@ -24,7 +24,6 @@ use Rattle.sat_model.specs.declared.rules.Rules.{Rules}
 use Rattle.subpaving.proofs.FoldingLemmas.{steps_fold}
 use Rattle.input_files.proofs.GrammarLemmas.{memory_settles, no_first, read_settles, refused_settles}
 use Rattle.input_files.specs.Earlier.{IsLeft, IsUnfit, NamesEarlier, NamesUnfit, SpellsEarlier, earlier_text}
-use Rattle.input_files.specs.Logs.{NamesFirst}
 use Rattle.input_files.specs.Reading.{Gives, GivesOrEnds, Settles, valued}
 use Rattle.input_files.specs.Statuses.{notice_of_log, status_of}
 use Rattle.input_files.specs.declared.notice.Notice.{Notice}

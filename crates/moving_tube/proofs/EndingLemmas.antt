@@ -1,5 +1,5 @@
 -- What a log leaves, and what is left of a receiver that it keeps.
-use Rattle.std.proofs.Common.{◌≡◌, ◌∙◌, ℕ, zero, suc, Bool, true, List, [], ◌∷◌, sym, ap, subst, Option, None, Some}
+use Rattle.std.proofs.Common.{◌≡◌, ◌∙◌, zero, suc, Bool, true, List, [], ◌∷◌, sym, ap, subst, Option, None, Some}
 use Rattle.std.specs.Prelude.{ℤ, ◌↔◌, IfSome, IsTrue}
 use Rattle.std.specs.List.{AllByRecursion}
 use Rattle.grid_model.specs.Boxes.{GridBox, IsInside, grid_box}

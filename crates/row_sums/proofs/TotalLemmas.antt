@@ -17,6 +17,14 @@ pub form_is : (forms : List Form) (place : ℕ) (form : Form) → place < length
     → form ≡ get_or forms place form → form_at (map form_value forms) place ≡ form_value form
 form_is forms place form h e = get_or-map form_value forms place form no_form h ∙ ap form_value (sym e)
 
+pub end_high : (m : ℤ) (f : FormValue) → pos 0 ≤ℤ m → f.upper ≡ end_of m f
+end_high (pos n) f h = refl
+end_high (negsuc n) f h = absurd (omega (arith, ints))
+
+pub end_low : (m : ℤ) (f : FormValue) → m <ℤ pos 0 → f.lower ≡ end_of m f
+end_low (pos n) f h = absurd (omega (arith, ints))
+end_low (negsuc n) f h = refl
+
 -- the term at a place is the next one
 pub next_is : (terms : List Term) (i : ℕ) (t : Term) → i < length terms → t ≡ get_or terms i t
     → drop i terms ≡ t ∷ drop (i + 1) terms

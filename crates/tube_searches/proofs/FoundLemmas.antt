@@ -1,5 +1,5 @@
 -- By an accepted log a moving receiver is found.
-use Rattle.std.proofs.Common.{◌≡◌, ◌⊎◌, ℕ, zero, suc, ℤ, Bool, true, false, List, [], ◌∷◌, length, map, drop, inl, inr, refl, sym, ap, subst, arith, ◌∙◌, Option, None, Some}
+use Rattle.std.proofs.Common.{◌≡◌, ◌⊎◌, ℕ, zero, suc, ℤ, Bool, true, false, List, [], ◌∷◌, length, map, drop, inl, inr, refl, sym, ap, subst, arith, Option, None, Some}
 use Rattle.epoch_selection.specs.Searches.{Search}
 use Rattle.moving_tube.specs.Hulls.{hull_of}
 use Rattle.moving_tube.specs.Roots.{Before, handed_on, kept_with, kept_of, root_for}
