@@ -6,7 +6,7 @@ from hypothesis import strategies as st
 from made_logs import EXAMPLES
 
 from gpscover.errors import Error
-from gpscover.observations import search_of
+from gpscover.observations import header_position, search_of
 from gpscover.settings import Bounds, Galileo, Search, Settings, SettingsError, Signal, Station
 
 LENGTH = st.integers(-(10**6), 10**6)
@@ -86,3 +86,22 @@ def test_what_is_none_is_refused_in_one_line(text, tmp_path):
     path.write_bytes(b"\xff")
     with pytest.raises(SettingsError):
         Settings.read(path)
+
+
+@pytest.mark.parametrize(
+    "positions, expected",
+    [
+        ([], None),
+        (["     1000.0000    -2000.5000        0.0001"], (1_000_000_000, -2_000_500_000, 100)),
+        (
+            ["     1000.0000    -2000.5000        0.0001", "        4.0000        5.0000        6.0000"],
+            (4_000_000, 5_000_000, 6_000_000),
+        ),
+        (["     1000.0000    -2000.5000        0.0001", "        4.0000                      6.0000"], None),
+    ],
+)
+def test_the_last_position_of_a_header_counts(tmp_path, positions, expected):
+    """As the program has it: a blank coordinate makes it none, whatever stands before."""
+    lines = [f"{position:60}APPROX POSITION XYZ" for position in positions]
+    (tmp_path / "obs").write_text("\n".join([*lines, f"{'':60}END OF HEADER", ""]))
+    assert header_position(tmp_path / "obs") == expected

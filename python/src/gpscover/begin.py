@@ -34,12 +34,12 @@ from gpscover.command import Command, measure
 from gpscover.errors import Error
 from gpscover.files import prepared
 from gpscover.geodesy import Vector, geodetic
-from gpscover.log import PathLike, epochs
-from gpscover.observations import file_epochs, types_of
+from gpscover.log import UM_PER_M, PathLike, epochs
+from gpscover.observations import file_epochs, header_position, types_of
 from gpscover.program import home
 from gpscover.region import hull_of, region_or_none
 from gpscover.runs import check, solve
-from gpscover.settings import Bounds, Search, Settings, Signal
+from gpscover.settings import Bounds, Search, Settings, Signal, Three
 
 EARTH_M = (6_300_000, 6_500_000)  # from the earth's centre, of a place on it or in the air
 MOST_HALF_MM = 100_000_000
@@ -59,18 +59,17 @@ class Header:
     place: Vector | None
 
 
+def in_metres(position: Three) -> Vector:
+    """A place in um in m."""
+    x, y, z = (end / UM_PER_M for end in position)
+    return x, y, z
+
+
 def header_of(path: PathLike) -> Header:
     """The header of an observation file."""
     codes = [it for it in types_of(path).get("G", []) if it.startswith("C1")]
-    place = None
-    with open(path, encoding="ascii", errors="replace") as file:
-        for line in file:
-            label = line[60:].strip()
-            if label == "APPROX POSITION XYZ":
-                x, y, z = (measure(word) for word in line[:42].split())
-                place = (x, y, z)
-            elif label == "END OF HEADER":
-                break
+    position = header_position(path)
+    place = None if position is None else in_metres(position)
     return Header(codes, place)
 
 

@@ -3,6 +3,7 @@
 from __future__ import annotations
 
 import re
+from collections.abc import Iterator
 from fractions import Fraction
 
 from gpscover.errors import Error
@@ -29,39 +30,47 @@ def file_epochs(path: PathLike) -> int:
     return count
 
 
+def header_lines(path: PathLike) -> Iterator[tuple[str, str]]:
+    """The lines of a file's header, each with its label in front."""
+    with open(path, encoding="ascii", errors="replace") as file:
+        for line in file:
+            label = line[60:].strip()
+            if label == "END OF HEADER":
+                break
+            yield label, line
+
+
 def types_of(path: PathLike) -> dict[str, list[str]]:
     """The types of observations in the header of a file, by the letter of their system."""
     types: dict[str, list[str]] = {}
     system = ""
-    with open(path, encoding="ascii", errors="replace") as file:
-        for line in file:
-            label = line[60:].strip()
-            if label == "SYS / # / OBS TYPES":
-                system = line[0].strip() or system
-                types.setdefault(system, []).extend(line[7:58].split())
-            elif label == "END OF HEADER":
-                break
+    for label, line in header_lines(path):
+        if label == "SYS / # / OBS TYPES":
+            system = line[0].strip() or system
+            types.setdefault(system, []).extend(line[7:58].split())
     return types
 
 
+def position_in(line: str) -> Three | None:
+    """The position in um of its line in a header; None where a coordinate is blank or no number."""
+    words = [line[k : k + 14].strip() for k in (0, 14, 28)]
+    if not all(map(COORDINATE.fullmatch, words)):
+        return None
+    x, y, z = (round(UM_PER_M * Fraction(word)) for word in words)
+    return x, y, z
+
+
 def header_position(path: PathLike) -> Three | None:
-    """The position in the header of a file, in um; None where it has none."""
-    with open(path, encoding="ascii", errors="replace") as file:
-        for line in file:
-            label = line[60:].strip()
-            if label == "APPROX POSITION XYZ":
-                words = [line[k : k + 14].strip() for k in (0, 14, 28)]
-                if not all(map(COORDINATE.fullmatch, words)):
-                    return None
-                x, y, z = (round(UM_PER_M * Fraction(word)) for word in words)
-                return x, y, z
-            if label == "END OF HEADER":
-                break
-    return None
+    """The position in the header of a file, in um, by the last line that has one; None where there is none."""
+    position = None
+    for label, line in header_lines(path):
+        if label == "APPROX POSITION XYZ":
+            position = position_in(line)
+    return position
 
 
 def search_of(settings: PathLike, obs: PathLike | None) -> Box:
-    """The search box of a file of settings, whose middle may be the position in the header of a file of observations."""
+    """The search box of a file of settings, whose middle may be the position in the header of an observation file."""
     box = Settings.read(settings).search_box(None if obs is None else header_position(obs))
     if box is None:
         raise Error(f"{settings}: the middle of the search box is in the header of a file, which --obs names")

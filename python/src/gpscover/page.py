@@ -7,9 +7,10 @@ The page has a table and a time line of all epochs with the numbers of `gpslog s
 that is chosen its boxes in three dimensions, the outline of all its boxes from three sides, the sky
 with its satellites, the declared errors and the satellites that aren't used with the reason; a map
 sheet with the outline of each region in latitude and longitude; and the settings, if they are
-given, whose search box is that of a track which goes on from an earlier log. A click on a head of the table sorts it. With a list of known places the table has of each epoch
-whether its region holds the place, and the farthest corner from it along the ground, and up or down, as
-`gpslog summary --places` has them. With files of zones it has what each epoch says of each zone, or of
+given, whose search box is that of a track which goes on from an earlier log. A click on a head of
+the table sorts it. With a list of known places the table has of each epoch whether its region holds
+the place, and the farthest corner from it along the ground, and up or down, as `gpslog summary
+--places` has them. With files of zones it has what each epoch says of each zone, or of
 those that --zone names (`gpslog answers`), and the map sheet has their outlines. Several logs are the
 parts of one file in their order. Of files the page has the names, and not where they stand.
 

@@ -26,11 +26,11 @@ The user says what the zones are for, and all is rounded to that side. A zone fo
 where the answer is `outside` no fitting point lies in the zone as it was given. A zone for `inside`
 shrinks: where it is `inside` each fitting point lies in it. Growing or shrinking takes a millimetre
 for the arithmetic of this script, and what the curve of the ellipsoid, the round of a place (3.5 %
-of its radius) and directions of whole numbers cost. For `outside` the parts of an area have sides more at their sharp edges; for `inside` a box
-has to lie in one of them, so one over a cut between two leaves the area open, as does a box over
-the end of a leg. With --parts an area that would be cut is refused for `inside`: each point would
-have to lie in one of the zones. A reach is told in um times the length of its direction, which is
-2^20 to within a millionth.
+of its radius) and directions of whole numbers cost. For `outside` the parts of an area have sides
+more at their sharp edges; for `inside` a box has to lie in one of them, so one over a cut between
+two leaves the area open, as does a box over the end of a leg. With --parts an area that would be
+cut is refused for `inside`: each point would have to lie in one of the zones. A reach is told in um
+times the length of its direction, which is 2^20 to within a millionth.
 
 What `guard` wouldn't read isn't printed: two zones or directions of one name, more than 65,536
 bytes, which is room for some 90 places or 200 legs.
