@@ -1,7 +1,7 @@
 -- All steps of one box: there are such, with at most 1,014 cuts.
-use Rattle.std.proofs.Common.{◌≡◌, ℕ, ◌+◌, ◌-◌, ◌<◌, ◌≤◌, append_assoc, arith, List, [], ◌∷◌, ◌++◌, length, inl, inr, refl, sym, ap, subst, ◌∙◌, ◌↔◌, Bool, true, false}
+use Rattle.std.proofs.Common.{◌≡◌, ℕ, ◌+◌, ◌-◌, ◌<◌, ◌≤◌, append_assoc, arith, List, [], ◌∷◌, ◌++◌, length, inl, inr, refl, sym, ap, subst, ◌∙◌, Bool, true, false}
 use Rattle.std.specs.Prelude.{ℤ, pos, ◌*ℤ◌, ◌≤ℤ◌}
-use Rattle.std.proofs.lemmas.List.{append-nil, length-append}
+use Rattle.std.proofs.lemmas.List.{length-append}
 use Rattle.grid_model.specs.declared.boxes.Box3.{Box3}
 use Rattle.grid_model.specs.declared.spans.Span.{Span}
 use Rattle.sat_model.specs.declared.rules.Rules.{Rules}
@@ -27,25 +27,14 @@ use Rattle.range_contractor.proofs.RowLemmas.{count_rows}
 use Rattle.range_contractor.proofs.RowTreeExists.{rows_grain}
 use Rattle.range_contractor.proofs.TreeExists.{IsGridPart, inside_part, tied_exists}
 use Rattle.box_contraction.specs.Adding.{AddsCuts}
-use Rattle.box_contraction.specs.Cuts.{all_faces, eighths, NoneMayCut, AreEighthCuts, AreDeepCuts, AreFacesDone, AreRoundCuts, IsCutTo, IsFaceDone}
+use Rattle.box_contraction.specs.Cuts.{all_faces, eighths, AreFaces, IsSomeCut, NoneMayCut, AreEighthCuts, AreFacesDone}
 use Rattle.box_contraction.specs.BoxSteps.{AreCutsByTree, IsCutDown, IsCutBy, IsCut, AreCutsOf, AreBoxSteps}
-use Rattle.box_contraction.specs.declared.target.Target.TheVariants.{Eighths, Deep}
 use Rattle.box_contraction.proofs.EndingExists.{ending_exists}
-use Rattle.box_contraction.proofs.FaceLemmas.{IsSomeCut, AreFaces, both_faces, proposal_cuts_exist, proposal_some, faces_few, faces_inside, faces_as, faces_both, done_some, eighth_done}
-use Rattle.box_contraction.proofs.RoundLemmas.{target_rule, rounds_exist, rounds_few, round_cuts_as, round_cuts_faces, round_cuts_leave}
+use Rattle.box_contraction.proofs.FaceLemmas.{both_faces, proposal_cuts_exist, proposal_some, faces_few, faces_inside, faces_both, cuts_some as faces_some}
+use Rattle.box_contraction.proofs.RoundLemmas.{rounds_exist, rounds_few, round_cuts_faces, round_cuts_leave}
 
 pub grid_part : (part : Box3) → IsGridPart (grid_box part)
 grid_part part = record { lies = box_lies part; sizes = box_sizes part }
-
-eighths_exist : (test : BoxTest) (id : ℕ) (part : GridBox) → test.q < length test.rows
-    → IsGridPart part
-    → (steps : List ShownStep) × ((left : GridBox) × AreEighthCuts test id part steps left)
-eighths_exist test id part few grid = rounds_exist test id (IsCutTo test id eighths) part (target_rule test id Eighths few tt) grid
-
-deep_exist : (test : BoxTest) (id : ℕ) (part : GridBox) → test.q < length test.rows
-    → IsGridPart part
-    → (steps : List ShownStep) × ((left : GridBox) × AreDeepCuts test id part steps left)
-deep_exist test id part few grid = rounds_exist test id (IsFaceDone test id) part (target_rule test id Deep few tt) grid
 
 -- ---- cuts at some faces
 
@@ -70,23 +59,19 @@ by_tree_grid : (g slack : ℤ) (t : TreeValue) (clock : Side) (test : BoxTest) (
     → IsGridPart part → AreCutsByTree g slack t clock test id part cuts left → IsGridPart left
 by_tree_grid g slack t clock test id part cuts left grid by = inside_part left part (by_tree_inside g slack t clock test id part cuts left grid by) grid
 
-round_some : (test : BoxTest) (id : ℕ) (part : GridBox) (cuts : List ShownStep) (left : GridBox)
-    → AreRoundCuts (IsFaceDone test id) part cuts left
+eighths_some : (test : BoxTest) (id : ℕ) (part : GridBox) (cuts : List ShownStep) (left : GridBox)
+    → AreEighthCuts test id part cuts left
     → (faces : List ℕ) × (AreFaces faces × AreFacesDone (IsSomeCut test id) faces part cuts left)
-round_some test id part cuts left are =
-    let (faces, (named, all)) = round_cuts_faces (IsFaceDone test id) part cuts left are in
-    (faces, (named, faces_as (IsFaceDone test id) (IsSomeCut test id) faces part cuts left (done_some test id) all))
-
-eighths_done : (test : BoxTest) (id : ℕ) (part : GridBox) (cuts : List ShownStep) (left : GridBox)
-    → AreEighthCuts test id part cuts left → AreRoundCuts (IsFaceDone test id) part cuts left
-eighths_done test id part cuts left are = round_cuts_as (IsCutTo test id eighths) (IsFaceDone test id) part cuts left (eighth_done test id) are
+eighths_some test id part cuts left are =
+    let (faces, (named, all)) = round_cuts_faces test id part cuts left are in
+    (faces, (named, faces_some test id eighths faces part cuts left all))
 
 cut_some : (g slack : ℤ) (asked : Bool) (test : BoxTest) (id : ℕ) (part : GridBox) (cuts : List ShownStep) (left : GridBox)
     → IsCutBy g slack test asked id part cuts left
     → (faces : List ℕ) × (AreFaces faces × AreFacesDone (IsSomeCut test id) faces part cuts left)
 cut_some g slack false test id part cuts left down =
     let (xs, (few, (these, first))) = by_tree_some g slack (row_tree g test.rows test.q) down.clock test id part down.by_tree down.middle down.tree_cuts in
-    let (ys, (those, second)) = round_some test id down.middle down.by_eighths left (eighths_done test id down.middle down.by_eighths left down.eighth_cuts) in (
+    let (ys, (those, second)) = eighths_some test id down.middle down.by_eighths left down.eighth_cuts in (
       xs ++ ys,
       (
         both_faces xs ys these those,
@@ -94,7 +79,7 @@ cut_some g slack false test id part cuts left down =
             (faces_both (IsSomeCut test id) xs ys part down.middle left down.by_tree down.by_eighths first second),
       ),
     )
-cut_some g slack true test id part cuts left deep = round_some test id part cuts left deep
+cut_some g slack true test id part cuts left some = (some.faces, (some.named, some.are))
 
 -- the cuts of a box are at some faces, one after another
 pub cuts_some : (g slack : ℤ) (test : BoxTest) (box : WaitingBox) (cuts : List ShownStep) (left : GridBox)
@@ -167,10 +152,10 @@ cut_exists g false test id part one most few grid not_empty =
           let (answer, tied) = tied_exists tree g (pos 16 *ℤ g) clock part one most refl (omega (arith, count_rows g test.rows), rows_grain g test.rows one most) grid in
           let (by_tree, (middle, are)) = proposal_cuts_exist test id answer part few in
           let by : AreCutsByTree g (pos 16 *ℤ g) tree clock test id part by_tree middle = record { answer = answer; proposal = proposal tree g (pos 16 *ℤ g) clock part answer grid.lies tied; are = are } in
-          let (by_eighths, (left, eighths)) = eighths_exist test id middle few (by_tree_grid g (pos 16 *ℤ g) tree clock test id part by_tree middle grid by) in
+          let (by_eighths, (left, eighths)) = rounds_exist test id middle few (by_tree_grid g (pos 16 *ℤ g) tree clock test id part by_tree middle grid by) in
           (by_tree ++ by_eighths, (left, record { clock = clock; hull = hull; by_tree = by_tree; middle = middle; tree_cuts = by; by_eighths = by_eighths; eighth_cuts = eighths; all_cuts = refl }))
     ]
-cut_exists g true test id part one most few grid not_empty = deep_exist test id part few grid
+cut_exists g true test id part one most few grid not_empty = ([], (part, record { faces = []; named = tt; few = omega arith; are = (refl, refl) }))
 
 pub box_steps_exist : (g : ℤ) (test : BoxTest) (rules : Rules) (splits : ℕ) (box : WaitingBox)
     → pos 1 ≤ℤ g → g ≤ℤ pos 1048576 → test.q < length test.rows → IsGridPart box.part
@@ -217,9 +202,9 @@ cut_few g slack false test id part cuts left grid down =
       ap length down.all_cuts,
       length-append down.by_tree down.by_eighths,
       by_tree_few g slack tree down.clock test id part down.by_tree down.middle down.tree_cuts,
-      rounds_few test id down.middle down.by_eighths left middle (eighths_done test id down.middle down.by_eighths left down.eighth_cuts),
+      rounds_few test id down.middle down.by_eighths left middle down.eighth_cuts,
     )
-cut_few g slack true test id part cuts left grid deep = omega (arith, rounds_few test id part cuts left grid deep)
+cut_few g slack true test id part cuts left grid some = omega (arith, some.few, faces_few test id some.faces part cuts left some.are)
 
 pub cuts_few : (g slack : ℤ) (test : BoxTest) (box : WaitingBox) (cuts : List ShownStep) (left : GridBox)
     → IsGridPart box.part → AreCutsOf g slack test box cuts left → length cuts ≤ 1014
@@ -229,14 +214,14 @@ cuts_few g slack test box cuts left grid are = elim are [
 ]
 
 cut_leaves : (g slack : ℤ) (asked : Bool) (test : BoxTest) (id : ℕ) (part : GridBox) (cuts : List ShownStep) (left : GridBox)
-    → IsCutBy g slack test asked id part cuts left → NoneMayCut test all_faces left
-cut_leaves g slack false test id part cuts left down = round_cuts_leave test id down.middle down.by_eighths left (eighths_done test id down.middle down.by_eighths left down.eighth_cuts)
-cut_leaves g slack true test id part cuts left deep = round_cuts_leave test id part cuts left deep
+    → asked ≡ false → IsCutBy g slack test asked id part cuts left → NoneMayCut test all_faces left
+cut_leaves g slack false test id part cuts left not down = round_cuts_leave test id down.middle down.by_eighths left down.eighth_cuts
+cut_leaves g slack true test id part cuts left not some = absurd cc
 
--- where a box is split or closed at the edge, no slab of an eighth is shown empty
+-- where no pairs are asked and a box is split or closed at the edge, no slab of an eighth is shown empty
 pub none_left : (g slack : ℤ) (test : BoxTest) (box : WaitingBox) (cuts : List ShownStep) (left : GridBox)
-    → IsUndecided test left → AreCutsOf g slack test box cuts left → NoneMayCut test all_faces left
-none_left g slack test box cuts left undecided are = elim are [
+    → test.pairs ≡ false → IsUndecided test left → AreCutsOf g slack test box cuts left → NoneMayCut test all_faces left
+none_left g slack test box cuts left not undecided are = elim are [
   | inr (decided, none, same) ↦ absurd (decided (subst (λ (c : GridBox). IsUndecided test c) same undecided))
-  | inl (was, cut) ↦ cut_leaves g slack test.pairs test box.id box.part cuts left cut
+  | inl (was, cut) ↦ cut_leaves g slack test.pairs test box.id box.part cuts left not cut
 ]

@@ -1,19 +1,15 @@
 -- Cuts at the faces of a box: there is one way to go on at each face, and what is left lies inside.
 use Rattle.std.proofs.Common.{◌≡◌, ℕ, ◌<◌, ◌≤◌, arith, List, [], ◌∷◌, ◌++◌, length, ◌⊎◌, inl, inr, refl, sym, ap, subst, ◌∙◌, append_assoc, Option, None, Some, Bool, true, false}
 use Rattle.std.specs.Prelude.{ℤ}
-use Rattle.std.specs.List.{AllByRecursion}
 use Rattle.std.proofs.lemmas.Int.{ints, by_lt_z}
 use Rattle.std.proofs.lemmas.List.{length-append}
-use Rattle.grid_model.specs.Boxes.{Side, GridBox, grid_box, side_at}
+use Rattle.grid_model.specs.Boxes.{Side, GridBox, side_at}
 use Rattle.sat_model.specs.BoxTests.{BoxTest}
 use Rattle.sat_model.specs.Contractors.{LiesIn}
 use Rattle.sat_model.specs.Fold.{ShownStep, axis_of, is_low, IsProperBound, left_by_cut, slab_of_cut}
 use Rattle.range_contractor.proofs.BoxLemmas.{lies_through}
 use Rattle.row_pairs.proofs.TestLemmas.{empty_or_not}
-use Rattle.box_contraction.specs.Cuts.{Bounds, proposed, eighths, all_faces, IsAsDeep, MayCut, cut_shown, IsCutTo, IsFaceDone, AreFacesDone, AreProposalCuts}
-use Rattle.box_contraction.specs.Targets.{done_by}
-use Rattle.box_contraction.specs.declared.target.Target.{Target}
-use Rattle.box_contraction.specs.declared.target.Target.TheVariants.{Proposal, Eighths, Deep}
+use Rattle.box_contraction.specs.Cuts.{Bounds, proposed, all_faces, AreFaces, MayCut, cut_shown, IsCutTo, IsSomeCut, AreFacesDone, AreFacesCut, AreProposalCuts}
 use Rattle.sat_model.proofs.FoldLemmas.{side_inside, with_inside}
 use Rattle.range_contractor.proofs.TreeLemmas.{lies_itself as own_box}
 
@@ -40,54 +36,20 @@ may_or_not test face bound part few = elim (proper_or_not (is_low face) (side_at
 
 -- ---- the cut of a face
 
--- a cut at some bound, or none
-abbrev pub IsSomeCut : BoxTest → ℕ → ℕ → GridBox → List ShownStep → GridBox → Type 0
-IsSomeCut test id face part steps left =
-    ((bound : ℤ) × MayCut test face bound part × (steps ≡ cut_shown id face bound part ∷ []) × (left ≡ left_by_cut face bound part))
-    ⊎ ((steps ≡ []) × (left ≡ part))
-
-pub to_some : (test : BoxTest) (id : ℕ) (bounds : Bounds) (face : ℕ) (part : GridBox) (steps : List ShownStep) (left : GridBox)
+to_some : (test : BoxTest) (id : ℕ) (bounds : Bounds) (face : ℕ) (part : GridBox) (steps : List ShownStep) (left : GridBox)
     → IsCutTo test id bounds face part steps left → IsSomeCut test id face part steps left
 to_some test id bounds face part steps left is = elim is [
   | inl (may, one, cut) ↦ inl (bounds face part, may, one, cut)
   | inr (not, none, same) ↦ inr (none, same)
 ]
 
-pub done_some : (test : BoxTest) (id face : ℕ) (part : GridBox) (steps : List ShownStep) (left : GridBox)
-    → IsFaceDone test id face part steps left → IsSomeCut test id face part steps left
-done_some test id face part steps left is = elim is [
-  | inl d ↦ inl (d.bound, d.may, d.cut, d.rest)
-  | inr (not, none, same) ↦ inr (none, same)
-]
-
-pub least_deep : (low : Bool) (bound : ℤ) → IsAsDeep low bound bound
-least_deep true bound = omega (arith, ints)
-least_deep false bound = omega (arith, ints)
-
--- the cut of an eighth is one of an eighth or more
-pub eighth_done : (test : BoxTest) (id face : ℕ) (part : GridBox) (steps : List ShownStep) (left : GridBox)
-    → IsCutTo test id eighths face part steps left → IsFaceDone test id face part steps left
-eighth_done test id face part steps left is = elim is [
-  | inl (may, one, cut) ↦ inl (record { eighth = may; bound = eighths face part; deep = least_deep (is_low face) (eighths face part); may = may; cut = one; rest = cut })
-  | inr not ↦ inr not
-]
-
-to_exists : (test : BoxTest) (id : ℕ) (bounds : Bounds) (face : ℕ) (part : GridBox)
+pub to_exists : (test : BoxTest) (id : ℕ) (bounds : Bounds) (face : ℕ) (part : GridBox)
     → test.q < length test.rows
     → (steps : List ShownStep) × ((left : GridBox) × IsCutTo test id bounds face part steps left)
 to_exists test id bounds face part few = elim (may_or_not test face (bounds face part) part few) [
   | inl may ↦ (cut_shown id face (bounds face part) part ∷ [], (left_by_cut face (bounds face part) part, inl (may, refl, refl)))
   | inr not ↦ ([], (part, inr (not, refl, refl)))
 ]
-
-pub done_exists : (test : BoxTest) (id : ℕ) (target : Target) (face : ℕ) (part : GridBox)
-    → test.q < length test.rows
-    → (steps : List ShownStep) × ((left : GridBox) × done_by test id target face part steps left)
-done_exists test id (Proposal a) face part few = to_exists test id (proposed (grid_box a)) face part few
-done_exists test id Eighths face part few = to_exists test id eighths face part few
-done_exists test id Deep face part few =
-    let (steps, (left, is)) = to_exists test id eighths face part few in
-    (steps, (left, eighth_done test id face part steps left is))
 
 -- ---- each box has its cuts
 
@@ -108,9 +70,6 @@ proposal_cuts_exist test id (Some a) part few = faces_exist (IsCutTo test id (pr
 
 -- ---- faces by their numbers
 
-abbrev pub AreFaces : List ℕ → Type 0
-AreFaces faces = AllByRecursion (λ (face : ℕ). face ≤ 5) faces
-
 pub both_faces : (xs ys : List ℕ) → AreFaces xs → AreFaces ys → AreFaces (xs ++ ys)
 both_faces [] ys f g = g
 both_faces (x ∷ xs) ys f g = (f.0, both_faces xs ys f.1 g)
@@ -120,7 +79,7 @@ all_are = (omega arith, (omega arith, (omega arith, (omega arith, (omega arith, 
 
 -- ---- the same faces, by another relation
 
-pub faces_as : (A B : ℕ → GridBox → List ShownStep → GridBox → Type 0) (faces : List ℕ) (part : GridBox) (steps : List ShownStep) (left : GridBox)
+faces_as : (A B : ℕ → GridBox → List ShownStep → GridBox → Type 0) (faces : List ℕ) (part : GridBox) (steps : List ShownStep) (left : GridBox)
     → ((face : ℕ) (b : GridBox) (own : List ShownStep) (rest : GridBox) → A face b own rest → B face b own rest)
     → AreFacesDone A faces part steps left → AreFacesDone B faces part steps left
 faces_as A B [] part steps left f are = are
@@ -165,10 +124,15 @@ faces_inside test id (face ∷ faces) part steps left lies (own, middle, more, i
     let here = face_inside test id face part own middle lies is in
     lies_through left middle part (faces_inside test id faces middle more left (own_box middle part here) rest) here
 
--- ---- a proposal's cuts
+-- ---- cuts to some bounds, and a proposal's
+
+pub cuts_some : (test : BoxTest) (id : ℕ) (bounds : Bounds) (faces : List ℕ) (part : GridBox) (steps : List ShownStep) (left : GridBox)
+    → AreFacesCut test id bounds faces part steps left
+    → AreFacesDone (IsSomeCut test id) faces part steps left
+cuts_some test id bounds faces part steps left are = faces_as (IsCutTo test id bounds) (IsSomeCut test id) faces part steps left (to_some test id bounds) are
 
 pub proposal_some : (test : BoxTest) (id : ℕ) (answer : Option GridBox) (part : GridBox) (steps : List ShownStep) (left : GridBox)
     → AreProposalCuts test id answer part steps left
     → (faces : List ℕ) × ((length faces ≤ 6) × (AreFaces faces × AreFacesDone (IsSomeCut test id) faces part steps left))
 proposal_some test id None part steps left are = ([], (omega arith, (tt, are)))
-proposal_some test id (Some a) part steps left are = (all_faces, (omega arith, (all_are, faces_as (IsCutTo test id (proposed a)) (IsSomeCut test id) all_faces part steps left (to_some test id (proposed a)) are)))
+proposal_some test id (Some a) part steps left are = (all_faces, (omega arith, (all_are, cuts_some test id (proposed a) all_faces part steps left are)))

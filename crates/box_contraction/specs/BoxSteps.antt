@@ -9,7 +9,7 @@ use Rattle.sat_model.specs.Waiting.{WaitingBox, IsUndecided, Closes}
 use Rattle.sat_model.specs.Proposals.{IsProposal}
 use Rattle.sat_model.specs.RowTrees.{row_tree}
 use Rattle.sat_model.specs.Trees.{TreeValue}
-use Rattle.box_contraction.specs.Cuts.{AreProposalCuts, AreEighthCuts, AreDeepCuts}
+use Rattle.box_contraction.specs.Cuts.{AreProposalCuts, AreEighthCuts, AreSomeCuts}
 
 -- the cuts are those by some proposal of the tree
 pub record AreCutsByTree (grain slack : ℤ) (t : TreeValue) (clock : Side) (test : BoxTest)
@@ -34,10 +34,10 @@ module _ (grain slack : ℤ) (test : BoxTest) where
     pub eighth_cuts : AreEighthCuts test id middle by_eighths left
     pub all_cuts : cuts ≡ by_tree ++ by_eighths
 
-  -- where pairs of rows are asked no tree is, and the box is cut by eighths or more
+  -- where pairs of rows are asked no tree is, and it is left open which slabs are cut off
   abbrev pub IsCutBy : Bool → ℕ → GridBox → List ShownStep → GridBox → Type 0
   IsCutBy false id part cuts left = IsCutDown id part cuts left
-  IsCutBy true id part cuts left = AreDeepCuts test id part cuts left
+  IsCutBy true id part cuts left = AreSomeCuts test id part cuts left
 
   abbrev pub IsCut : ℕ → GridBox → List ShownStep → GridBox → Type 0
   IsCut = IsCutBy test.pairs

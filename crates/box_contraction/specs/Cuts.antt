@@ -1,8 +1,9 @@
 -- Cuts of a box: slabs at its faces in which no point fits are taken off before it is split. A face
 -- may be moved to where a contractor proposes it (Chabert and Jaulin, 'Contractor programming',
 -- 2009), or a slab is tried and refuted (Lhomme, 'Consistency techniques for numeric CSPs', 1993).
-use Rattle.std.specs.Prelude.{◌≡◌, ◌≢◌, ℕ, ◌+◌, ◌/◌, ◌⊎◌, ℤ, pos, ◌+ℤ◌, ◌-ℤ◌, ◌≤ℤ◌}
-use Rattle.std.specs.Prelude.{List, [], ◌∷◌, ◌++◌, Option, None, Some, Bool, true, false}
+use Rattle.std.specs.List.{AllByRecursion}
+use Rattle.std.specs.Prelude.{◌≡◌, ◌≢◌, ℕ, ◌+◌, ◌/◌, ◌≤◌, ◌⊎◌, ℤ, pos, ◌+ℤ◌, ◌-ℤ◌}
+use Rattle.std.specs.Prelude.{List, [], ◌∷◌, ◌++◌, length, Option, None, Some, Bool, true, false}
 use Rattle.sat_model.specs.declared.steps.Step.TheVariants.{Cut}
 use Rattle.grid_model.specs.Boxes.{Side, GridBox, side_at}
 use Rattle.sat_model.specs.BoxTests.{BoxTest, IsEmpty}
@@ -36,14 +37,12 @@ past_eighth low s = past low s (eighth_of s)
 abbrev pub eighths : Bounds
 eighths face part = past_eighth (is_low face) (side_at (axis_of face) part)
 
--- a bound is at least as deep as another, at a low or at a high face
-abbrev pub IsAsDeep : Bool → ℤ → ℤ → Type 0
-IsAsDeep true least bound = least ≤ℤ bound
-IsAsDeep false least bound = bound ≤ℤ least
-
 -- the faces: low and high of x, of y and of z
 abbrev pub all_faces : List ℕ
 all_faces = 0 ∷ 1 ∷ 2 ∷ 3 ∷ 4 ∷ 5 ∷ []
+
+abbrev pub AreFaces : List ℕ → Type 0
+AreFaces faces = AllByRecursion (λ (face : ℕ). face ≤ 5) faces
 
 -- ---- the cut of a face
 
@@ -64,22 +63,6 @@ module _ (test : BoxTest) (id : ℕ) where
       (MayCut test face bound part × (steps ≡ cut_shown id face bound part ∷ [])
       × (left ≡ left_by_cut face bound part))
       ⊎ ((MayCut test face bound part → ⊥) × (steps ≡ []) × (left ≡ part))
-
-  -- a cut of an eighth or more, where the eighth may be cut off too
-  pub record IsDeepCut (face : ℕ) (part : GridBox) (steps : List ShownStep) (left : GridBox)
-      : Type 0 where
-    pub eighth : MayCut test face (eighths face part) part
-    pub bound : ℤ
-    pub deep : IsAsDeep (is_low face) (eighths face part) bound
-    pub may : MayCut test face bound part
-    pub cut : steps ≡ cut_shown id face bound part ∷ []
-    pub rest : left ≡ left_by_cut face bound part
-
-  -- a face is cut exactly where its eighth may be, there or deeper
-  abbrev pub IsFaceDone : ℕ → GridBox → List ShownStep → GridBox → Type 0
-  IsFaceDone face part steps left =
-      IsDeepCut face part steps left
-      ⊎ ((MayCut test face (eighths face part) part → ⊥) × (steps ≡ []) × (left ≡ part))
 
 -- ---- the cuts of all faces
 
@@ -125,9 +108,22 @@ module _ (test : BoxTest) (id : ℕ) where
   abbrev pub AreEighthCuts : GridBox → List ShownStep → GridBox → Type 0
   AreEighthCuts = AreRoundCuts (IsCutTo eighths)
 
-  -- rounds of cuts of an eighth or more
-  abbrev pub AreDeepCuts : GridBox → List ShownStep → GridBox → Type 0
-  AreDeepCuts = AreRoundCuts (IsFaceDone test id)
+-- ---- some cuts
+
+module _ (test : BoxTest) (id : ℕ) where
+  -- a face is cut at some bound, or isn't
+  abbrev pub IsSomeCut : ℕ → GridBox → List ShownStep → GridBox → Type 0
+  IsSomeCut face part steps left =
+      ((bound : ℤ) × MayCut test face bound part × (steps ≡ cut_shown id face bound part ∷ [])
+      × (left ≡ left_by_cut face bound part))
+      ⊎ ((steps ≡ []) × (left ≡ part))
+
+  -- cuts at some faces, at most 48 of them, each of the box as cut so far
+  pub record AreSomeCuts (part : GridBox) (steps : List ShownStep) (left : GridBox) : Type 0 where
+    pub faces : List ℕ
+    pub named : AreFaces faces
+    pub few : length faces ≤ 48
+    pub are : AreFacesDone IsSomeCut faces part steps left
 
 -- at none of these faces an eighth may be cut off
 abbrev pub NoneMayCut : BoxTest → List ℕ → GridBox → Type 0

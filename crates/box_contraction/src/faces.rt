@@ -1,14 +1,13 @@
 //! Cutting a box at its faces.
 
-ghost use Rattle.std.specs.Prelude.{◌≡◌, ◌+◌, ◌<◌, ◌≤◌, length, map, IsNone, IfSome};
+ghost use Rattle.std.specs.Prelude.{◌≡◌, ◌+◌, ◌<◌, ◌≤◌, length, map};
 ghost use Rattle.grid_model.specs.Boxes.{grid_box};
 ghost use Rattle.relaxed_meet.specs.TestValues.{test_value};
 ghost use Rattle.box_contraction.specs.Adding.{AddsCuts, step_value};
-ghost use Rattle.box_contraction.specs.Cuts.{MayCut, AreFacesDone, all_faces};
-ghost use Rattle.box_contraction.specs.Targets.{bounds_of, done_by, IsCutAt};
+ghost use Rattle.box_contraction.specs.Cuts.{AreFacesCut, IsCutTo, all_faces};
+ghost use Rattle.box_contraction.specs.Targets.{bounds_of};
 
 use crate::box_step::{BoxStep, BoxSteps};
-use crate::depth::deepest;
 use crate::may_cut::may_cut;
 use crate::target::Target;
 use grid_model::Box3;
@@ -16,25 +15,7 @@ use relaxed_meet::BoxTest;
 use sat_model::Step;
 use subpaving::{left_by, slab_of};
 
-/// Where the box is cut at a face for this target, in um; none where it isn't.
-fn bound_at(test: &mut BoxTest, target: &Target, face: u8, part: &Box3) -> Option<i64>
-    ensures none { IsNone result → MayCut (test_value test.old) face
-        (bounds_of target.now face (grid_box part.now)) (grid_box part.now) → ⊥ }
-    ensures some { IfSome result (λ bound. IsCutAt (test_value test.old) target.now face
-        (grid_box part.now) bound) }
-    ensures same { test_value test.new ≡ test_value test.old }
-{
-    let least = target.bound(face, part);
-    if !may_cut(test, face, least, part) {
-        return None;
-    }
-    match target {
-        Target::Proposal(_) | Target::Eighths => Some(least),
-        Target::Deep => Some(deepest(test, face, least, part)),
-    }
-}
-
-/// Cuts the box at a face for this target, or leaves it where it may not be cut.
+/// Cuts the box at a face to this target, or leaves it where it may not be cut.
 fn cut_face(
     test: &mut BoxTest,
     target: &Target,
@@ -44,14 +25,16 @@ fn cut_face(
     steps: &mut BoxSteps,
 )
     requires room { length steps.old.items < 1024 }
-    ensures cut { AddsCuts (done_by (test_value test.old) id target.now face (grid_box part.old))
+    ensures cut { AddsCuts (IsCutTo (test_value test.old) id (bounds_of target.now) face
+        (grid_box part.old))
         (map step_value steps.old.items) (grid_box part.new) (map step_value steps.new.items) }
     ensures few { length steps.new.items ≤ length steps.old.items + 1 }
     ensures same { test_value test.new ≡ test_value test.old }
 {
-    let Some(bound) = bound_at(test, target, face, part) else {
+    let bound = target.bound(face, part);
+    if !may_cut(test, face, bound, part) {
         return;
-    };
+    }
     let slab = slab_of(part, face, bound);
     steps.push(BoxStep {
         step: Step::Cut { id, face, bound },
@@ -60,7 +43,7 @@ fn cut_face(
     *part = left_by(part, face, bound);
 }
 
-/// Cuts the box at each face in turn for this target.
+/// Cuts the box at each face in turn to this target.
 pub fn cut_faces(
     test: &mut BoxTest,
     target: &Target,
@@ -69,7 +52,7 @@ pub fn cut_faces(
     steps: &mut BoxSteps,
 )
     requires room { length steps.old.items + 6 ≤ 1024 }
-    ensures cut { AddsCuts (AreFacesDone (done_by (test_value test.old) id target.now) all_faces
+    ensures cut { AddsCuts (AreFacesCut (test_value test.old) id (bounds_of target.now) all_faces
         (grid_box part.old))
         (map step_value steps.old.items) (grid_box part.new) (map step_value steps.new.items) }
     ensures few { length steps.new.items ≤ length steps.old.items + 6 }

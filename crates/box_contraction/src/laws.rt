@@ -1,6 +1,6 @@
 //! Laws of the steps of one box.
 
-ghost use Rattle.std.specs.Prelude.{ℕ, ◌<◌, ◌≤◌, ℤ, pos, ◌*ℤ◌, ◌≤ℤ◌, List, length};
+ghost use Rattle.std.specs.Prelude.{◌≡◌, ℕ, ◌<◌, ◌≤◌, ℤ, pos, ◌*ℤ◌, ◌≤ℤ◌, List, length, false};
 ghost use Rattle.grid_model.specs.Boxes.{GridBox, grid_box};
 ghost use Rattle.sat_model.specs.BoxTests.{BoxTest};
 ghost use Rattle.sat_model.specs.Contractors.{LiesIn};
@@ -20,9 +20,9 @@ pub fn box_steps_exist()
         (record { id = id; part = grid_box part }) steps }
 {}
 
-/// The law: a box has at most 1,014 cuts, 6 by a proposal and 1,008 by eighths or more, and they
-/// leave a part of it. If the rows don't decide that part, no eighth at its faces is shown empty.
-/// The call does nothing.
+/// The law: a box has at most 1,014 cuts, 6 by a proposal and 1,008 by eighths, and they leave a
+/// part of it. If the rows don't decide that part and no pairs of them are asked, no eighth at its
+/// faces is shown empty. The call does nothing.
 pub fn cuts_leave_no_eighth()
     ensures few { (grain : ℤ) → (slack : ℤ) → (test : BoxTest) → (id : ℕ)
         → (part : Box3) → (cuts : List ShownStep) → (left : GridBox)
@@ -35,6 +35,6 @@ pub fn cuts_leave_no_eighth()
     ensures none_left { (grain : ℤ) → (slack : ℤ) → (test : BoxTest) → (id : ℕ)
         → (part : Box3) → (cuts : List ShownStep) → (left : GridBox)
         → AreCutsOf grain slack test (record { id = id; part = grid_box part }) cuts left
-        → IsUndecided test left
+        → test.pairs ≡ false → IsUndecided test left
         → NoneMayCut test all_faces left }
 {}

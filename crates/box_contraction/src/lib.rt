@@ -1,11 +1,11 @@
 //! The steps of one box of a paving: slabs at its faces in which no point fits are cut off, and
-//! what is left is split or closed. Where pairs of rows are asked, the slabs are eighths of the box
-//! or more. Else they are what a tree of contractors proposes, and then eighths.
+//! what is left is split or closed. The slabs are what a tree of contractors proposes, and then
+//! eighths. Where pairs of rows are asked, they are what the deepest conflicts of pairs propose, some
+//! times over.
 #![tactic(auto)]
 
 mod box_step;
 mod closing;
-mod depth;
 mod faces;
 mod laws;
 mod may_cut;

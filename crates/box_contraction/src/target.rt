@@ -1,10 +1,10 @@
 //! Where faces of a box may be moved to.
 
-ghost use Rattle.std.specs.Prelude.{◌≡◌, ◌≤◌};
-ghost use Rattle.grid_model.specs.Boxes.{grid_box, side_at};
+ghost use Rattle.std.specs.Prelude.{◌≡◌};
+ghost use Rattle.grid_model.specs.Boxes.{grid_box};
 ghost use Rattle.sat_model.specs.Fold.{axis_of, is_low};
 ghost use Rattle.sat_model.specs.TightFaces.{face_at};
-ghost use Rattle.box_contraction.specs.Cuts.{eighths, past};
+ghost use Rattle.box_contraction.specs.Cuts.{eighths};
 
 use grid_model::Box3;
 
@@ -15,21 +15,19 @@ pub enum Target {
     Proposal(Box3),
     /// Past an eighth of the grid points of the side, rounded down.
     Eighths,
-    /// There, or farther.
-    Deep,
 }
 
 impl Target {
     ghost use Rattle.box_contraction.specs.Cuts.{eighths};
     ghost use Rattle.box_contraction.specs.Targets.{bounds_of};
 
-    /// Where a face of the box is moved to at least, in um.
+    /// Where a face of the box may be moved to, in um.
     pub fn bound(&self, face: u8, part: &Box3) -> i64
         ensures { result ≡ bounds_of self.now face (grid_box part.now) }
     {
         match self {
             Target::Proposal(proposed) => face_of(proposed, face),
-            Target::Eighths | Target::Deep => past_eighth(part, face),
+            Target::Eighths => past_eighth(part, face),
         }
     }
 }
@@ -46,19 +44,11 @@ fn face_of(part: &Box3, face: u8) -> i64
 fn past_eighth(part: &Box3, face: u8) -> i64
     ensures { result ≡ eighths face (grid_box part.now) }
 {
-    let eighth = (part.length_on(face / 2) + 1) / 8;
-    past(part, face, eighth)
-}
-
-/// The coordinate past so many points of the side, counted from the face, in um.
-pub(crate) fn past(part: &Box3, face: u8, points: u64) -> i64
-    requires { points ≤ 20000000000001 }
-    ensures { result ≡ past (is_low face) (side_at (axis_of face) (grid_box part.now)) points }
-{
+    let eighth = ((part.length_on(face / 2) + 1) / 8) as i64;
     let (lo, hi) = part.side(face / 2);
     if face % 2 == 0 {
-        lo + points as i64
+        lo + eighth
     } else {
-        hi - points as i64
+        hi - eighth
     }
 }

@@ -12,9 +12,8 @@ ghost use Rattle.box_contraction.specs.BoxSteps.{AreBoxSteps, IsCut, IsCutDown};
 
 use crate::box_step::{BoxStep, BoxSteps};
 use crate::closing::closing_step;
-use crate::proposal::cut_by_tree;
+use crate::proposal::{cut_by_pairs, cut_by_tree};
 use crate::rounds::cut_rounds;
-use crate::target::Target;
 use box_pool::Item;
 use fix_interval::Interval;
 use grid_model::{Box3, Span};
@@ -26,8 +25,8 @@ use sat_model::Rules;
 /// empty list, each with the slab that it cuts off or the box as it is then. The box is cut where
 /// the test shows slabs at its faces empty, and then it is split or closed. The tree is that of the
 /// rows: slabs are cut off up to what it proposes, and by eighths. Where the rules ask pairs of rows
-/// there is none, and slabs of an eighth or more are cut off. At most 1,014 cuts are made. What the
-/// test remembers affects speed only.
+/// there is none, and slabs are cut off up to what the deepest conflicts of pairs propose. At most
+/// 1,014 cuts are made. What the test remembers affects speed only.
 pub fn work_on<I: Interval>(
     test: &mut BoxTest,
     rules: &Rules,
@@ -82,7 +81,7 @@ fn cut_box<I: Interval>(
 {
     match tree {
         Some(tree) => cut_down(test, tree, hull, id, part, steps),
-        None => cut_rounds(test, &Target::Deep, id, part, steps),
+        None => cut_by_pairs(test, id, part, steps),
     }
 }
 
@@ -106,7 +105,7 @@ fn cut_down<I: Interval>(
     ensures same { test_value test.new ≡ test_value test.old }
 {
     cut_by_tree(test, tree, hull, id, part, steps);
-    cut_rounds(test, &Target::Eighths, id, part, steps);
+    cut_rounds(test, id, part, steps);
 }
 
 /// What the test shows of what cuts left of a box, of which it showed `state` before. Where nothing

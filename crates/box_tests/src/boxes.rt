@@ -160,32 +160,6 @@ fn eighths_are_cut_until_a_round_cuts_none(rt: HostRuntime) -> Result<(), NoMemo
     Ok(())
 }
 
-/// Of the satellites on the x axis the one leaves offsets from x - 5 m to x + 5 m, the other from
-/// -x - 5 m to -x + 5 m, so x is from -5 m to 5 m. Halving eight times from an eighth and the whole
-/// of 18,000,001 points finds 3,972,656 of them, and of the 14,027,345 left it finds 3,958,888.
-#[test]
-fn slabs_are_cut_off_as_deep_as_pairs_show_them(rt: HostRuntime) {
-    let rows = two_on_x();
-    let mut test = BoxTest::new(&rows, &BY_PAIRS);
-    let first = Item {
-        id: 0,
-        part: slab(-9_000_000, 9_000_000),
-    };
-    let mut steps = BoxSteps::new();
-    work_on::<Exact>(&mut test, &BY_PAIRS, None, 0, &first, &mut steps);
-    let edge = BoxStep {
-        step: Step::Edge {
-            id: 0,
-            lo: -10_027_344,
-            hi: 10_027_344,
-        },
-        part: slab(-5_027_344, 5_041_112),
-    };
-    let low = cut(0, -5_027_344, slab(-9_000_000, -5_027_345));
-    let high = cut(1, 5_041_112, slab(5_041_113, 9_000_000));
-    assert_eq!(rt; steps.as_slice(), [low, high, edge].as_slice());
-}
-
 #[test]
 fn a_box_without_fitting_points_is_closed_at_once(rt: HostRuntime) -> Result<(), NoMemory> {
     let part = slab(7_000_000, 8_000_000);
@@ -216,6 +190,29 @@ fn first_bounds(steps: &[BoxStep]) -> Option<(i64, i64)> {
             },
         ) => Some((low, high)),
         _ => None,
+    }
+}
+
+/// Of the satellites on the x axis the one leaves offsets from x - 5 m to x + 5 m, the other from
+/// -x - 5 m to -x + 5 m, so x is from -5 m to 5 m. The box is cut once at each face of that axis, as
+/// deep as the two are in conflict but for what is rounded.
+#[test]
+fn slabs_are_cut_off_as_deep_as_pairs_show_them(rt: HostRuntime) {
+    let rows = two_on_x();
+    let mut test = BoxTest::new(&rows, &BY_PAIRS);
+    let first = Item {
+        id: 0,
+        part: slab(-9_000_000, 9_000_000),
+    };
+    let mut steps = BoxSteps::new();
+    work_on::<Exact>(&mut test, &BY_PAIRS, None, 0, &first, &mut steps);
+    assert_eq!(rt; steps.len(), 3);
+    match first_bounds(steps.as_slice()) {
+        Some((low, high)) => {
+            assert!(rt; -5_000_020 <= low && low <= -5_000_000, "low face");
+            assert!(rt; 5_000_000 <= high && high <= 5_000_020, "high face");
+        }
+        None => assert!(rt; false, "no cuts"),
     }
 }
 

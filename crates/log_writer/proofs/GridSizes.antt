@@ -14,9 +14,8 @@ use Rattle.sat_model.specs.Waiting.{WaitingBox}
 use Rattle.grid_model.specs.Sizes.{IsBoxSize}
 use Rattle.grid_model.proofs.AmountLemmas.{above_is}
 use Rattle.box_contraction.specs.BoxSteps.{AreCutsOf}
-use Rattle.box_contraction.specs.Cuts.{AreFacesDone}
+use Rattle.box_contraction.specs.Cuts.{AreFaces, IsSomeCut, AreFacesDone}
 use Rattle.box_contraction.proofs.BoxLemmas.{cuts_some}
-use Rattle.box_contraction.proofs.FaceLemmas.{IsSomeCut, AreFaces}
 use Rattle.paving.proofs.PavedLemmas.{AreCutsInTurn}
 use Rattle.step_lines.specs.Lines.{StepFits}
 use Rattle.log_lines.specs.Rows.{CornersFit, corners_of}

@@ -18,7 +18,7 @@ pub(crate) struct FewRows<'a> {
 
 /// By rows of which not all may be inconsistent, or by fewer: these show no box empty, they show
 /// each box inner at each clock offset, and no offsets hold their hull.
-#[derive(Clone, Copy)]
+#[derive(Drop)]
 pub(crate) enum RowsTest<'a> {
     Enough(BoxTest<'a>),
     Few(FewRows<'a>),

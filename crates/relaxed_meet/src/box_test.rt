@@ -7,8 +7,11 @@ use crate::bounds::bounds_offsets;
 use crate::deciding::{Deciding, SlabTests};
 use crate::inner::is_shown_inner;
 use crate::shown::{BoxState, box_state, clock_hull};
+use arrayvec::ArrayVec;
 use grid_model::{Box3, Span};
-use row_pairs::shown_empty_by_pairs;
+use row_pairs::{
+    Form, fill_forms, forms_of, proposed_by_pairs, shown_empty_by_forms, shown_empty_by_pairs,
+};
 use sat_model::{Row, Rules};
 
 /// What decided the last tests. It suits other rows too, and doesn't matter for an answer.
@@ -19,14 +22,16 @@ pub struct Memory {
 }
 
 /// An inclusion test of boxes: the rows of an epoch, how many of them may be inconsistent, and
-/// whether pairs of them show boxes empty too. It remembers what decided the tests before.
-#[derive(Clone, Copy)]
+/// whether pairs of them show boxes empty too. It remembers what decided the tests before, and up to
+/// 24 rows' forms around the last box that pairs were asked of: room for more takes long to clear.
+#[derive(Drop)]
 pub struct BoxTest<'a> {
     rows: &'a [Row],
     q: u8,
     pairs: bool,
     boxes: Deciding,
     slabs: SlabTests,
+    forms: ArrayVec<Form, 24>,
     ghost enough: { q < length rows.now },
     ghost at_most: { length rows.now ≤ 64 },
 }
@@ -56,6 +61,7 @@ impl<'a> BoxTest<'a> {
             pairs: rules.pairs,
             boxes: memory.boxes,
             slabs: memory.slabs,
+            forms: ArrayVec::new(),
         }
     }
 
@@ -107,11 +113,38 @@ impl<'a> BoxTest<'a> {
     }
 
     /// Whether pairs are asked, and show a box empty that clock spans don't.
-    fn pairs_show_empty(&self, part: &Box3) -> bool
-        ensures { (IsShownEmpty self.now.rows.now (grid_box part.now) self.now.q → ⊥)
-            → (IsTrue result ↔ IsEmpty (test_value self.now) (grid_box part.now)) }
+    fn pairs_show_empty(&mut self, part: &Box3) -> bool
+        ensures shows { (IsShownEmpty self.old.rows.now (grid_box part.now) self.old.q → ⊥)
+            → (IsTrue result ↔ IsEmpty (test_value self.old) (grid_box part.now)) }
+        ensures same { test_value self.new ≡ test_value self.old }
     {
-        self.pairs && shown_empty_by_pairs(self.rows, part, self.q)
+        if !self.pairs {
+            return false;
+        }
+        if self.rows.len() > 24 {
+            return shown_empty_by_pairs(self.rows, part, self.q);
+        }
+        fill_forms(&mut self.forms, self.rows, part);
+        shown_empty_by_forms(&self.forms, part, self.q)
+    }
+
+    /// Forms the rows around a box, for a proposal.
+    pub fn form_rows(&mut self, part: &Box3)
+        ensures same { test_value self.new ≡ test_value self.old }
+    {
+        if self.rows.len() <= 24 {
+            fill_forms(&mut self.forms, self.rows, part);
+        }
+    }
+
+    /// Where pairs of rows propose the faces of a box around which the rows were formed last, as they
+    /// are by a test of it. It is a guess, and nothing is promised of it.
+    pub fn proposal(&self, part: &Box3) -> Box3 {
+        if self.rows.len() <= 24 {
+            return proposed_by_pairs(&self.forms, self.q, part);
+        }
+        let forms: ArrayVec<Form, 64> = forms_of(self.rows, part);
+        proposed_by_pairs(&forms, self.q, part)
     }
 
     /// Whether a box is shown inner at this clock offset in um: every point of it fits there.

@@ -58,12 +58,12 @@ module _ (m : Meaning) (sound : IsSound m) (renews : Bool) (directions : Option 
       run_leaves : (paved : HasRun directions maker rules block body)
           → NothingClearIn m rules search body.done paved.shown
       run_leaves paved = rw paved.done (run_clear m sound rules search box grid maker (length (rows_of block.sats)) (renewed_over m search renews (rows_of block.sats) distinct rows_are)
-          (test_in rules block) refl rows_are refl body.root root paved.shown paved.run)
+          (test_in rules block) refl refl rows_are refl body.root root paved.shown paved.run)
 
       hand_leaves : (first : HasBegun maker rules block body)
           → NothingClearIn m rules search first.begun.paving.splits first.shown
       hand_leaves first = first_clear m sound rules search box grid maker (length (rows_of block.sats)) (renewed_over m search renews (rows_of block.sats) distinct rows_are)
-          (test_in rules block) refl rows_are refl body.root root first.shown first.begun
+          (test_in rules block) refl refl rows_are refl body.root root first.shown first.begun
 
     body_of : (theirs ours : Option Body) → HasBody m.delays search.root grown.own given.sats theirs
         → BodyExtends (HasRun directions maker rules) block theirs ours

@@ -155,6 +155,7 @@ module _ (m : Meaning) (sound : IsSound m) (rules : Rules) (search : Search) (bo
   -- the test is by rows over this box, which lies in the root
   record IsInUse (used : GridBox) (test : BoxTest) : Type 0 where
     pub outliers : test.q ≡ rules.outliers
+    pub pairs : test.pairs ≡ rules.pairs
     pub rows : AreRowsOver m search used test.rows
     pub many : length test.rows ≡ count
     pub inside : IsInside used search.root
@@ -188,11 +189,11 @@ module _ (m : Meaning) (sound : IsSound m) (rules : Rules) (search : Search) (bo
   unclear grain slack used test waits cuts left is are_cuts lies undecided = record {
     not_empty = not_clearly_empty used left test is lies undecided.not_empty;
     not_inner = not_clearly_inner used left test is lies undecided.not_inner;
-    no_eighth = λ face le some.
+    no_eighth = λ not face le some.
         let own = own_box left used lies in
         let proper = eighth_proper (is_low face) (side_at (axis_of face) left) (own (axis_of face)).ordered some in
         not_clearly_empty used (slab_of_cut face (eighths face left) left) test is (lies_through _ left used (slab_inside face (eighths face left) left own proper) lies)
-        (λ empty. none_at test face left le (none_left grain slack test waits cuts left undecided are_cuts) (proper, empty));
+        (λ empty. none_at test face left le (none_left grain slack test waits cuts left (is.pairs ∙ not) undecided are_cuts) (proper, empty));
   }
 
   -- the step that splits or closes a box
@@ -252,6 +253,7 @@ module _ (m : Meaning) (sound : IsSound m) (rules : Rules) (search : Search) (bo
   used_then used test before splits waiting (Some new) is lie (active, due, many, gives) = (
     record {
       outliers = is.outliers;
+      pairs = is.pairs;
       rows = renewed active new.part new.rows (many ∙ is.many) gives;
       many = many ∙ is.many;
       inside = due.is_hull.least search.root (all_inside used search.root waiting lie is.inside);
@@ -321,10 +323,10 @@ module _ (m : Meaning) (sound : IsSound m) (rules : Rules) (search : Search) (bo
 
   -- ---- from the root on
 
-  module _ (test : BoxTest) (outliers : test.q ≡ rules.outliers) (rows : AreRowsOver m search search.root test.rows) (many : length test.rows ≡ count) (root : GridBox) (same : root ≡ search.root) where
+  module _ (test : BoxTest) (outliers : test.q ≡ rules.outliers) (pairs : test.pairs ≡ rules.pairs) (rows : AreRowsOver m search search.root test.rows) (many : length test.rows ≡ count) (root : GridBox) (same : root ≡ search.root) where
     first_going : IsGoing root (first_paving test root)
     first_going = rw same (record {
-      in_use = record { outliers = outliers; rows = rows; many = many; inside = lies_refl search.root };
+      in_use = record { outliers = outliers; pairs = pairs; rows = rows; many = many; inside = lies_refl search.root };
       lie = (grid.lies, tt);
     })
 

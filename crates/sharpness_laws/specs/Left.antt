@@ -1,7 +1,7 @@
--- What a run leaves: no box that it splits, or closes at the edge, is clear, and no eighth at its
--- faces.
+-- What a run leaves: no box that it splits, or closes at the edge, is clear, and where no pairs of
+-- rows are asked no eighth at its faces.
 use Rattle.std.specs.Prelude.{◌≡◌, ℕ, ◌≤◌, pos, ◌<ℤ◌, Bool, List, [], ◌∷◌, length, Option, None}
-use Rattle.std.specs.Prelude.{Some}
+use Rattle.std.specs.Prelude.{Some, false}
 use Rattle.std.specs.List.{AllByRecursion}
 use Rattle.bound_directions.specs.declared.directions.Directions.{Directions}
 use Rattle.box_contraction.specs.Cuts.{eighth_of, eighths}
@@ -30,7 +30,7 @@ module _ (m : Meaning) (rules : Rules) (search : Search) where
   pub record IsUnclear (part : GridBox) : Type 0 where
     pub not_empty : IsClearlyEmpty m rules.outliers search part → ⊥
     pub not_inner : IsClearlyInner m rules.outliers search part → ⊥
-    pub no_eighth : NoEighthIsClear part
+    pub no_eighth : rules.pairs ≡ false → NoEighthIsClear part
 
   -- after so many splits in all
   module _ (done : ℕ) where

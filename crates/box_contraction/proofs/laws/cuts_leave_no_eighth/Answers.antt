@@ -9,4 +9,4 @@ pub returns-clause-inside : goal.returns-clause-inside
 returns-clause-inside c = λ grain slack test id part cuts left are. cuts_inside grain slack test (record { id = id; part = grid_box part }) cuts left (grid_part part) are
 
 pub returns-clause-none_left : goal.returns-clause-none_left
-returns-clause-none_left c = λ grain slack test id part cuts left are undecided. none_left grain slack test (record { id = id; part = grid_box part }) cuts left undecided are
+returns-clause-none_left c = λ grain slack test id part cuts left are not undecided. none_left grain slack test (record { id = id; part = grid_box part }) cuts left not undecided are

@@ -15,4 +15,4 @@ returns g c = λ source renews rules epoch root own sats events box distinct are
     let search = search_in (grid_box root) epoch in
     let rows = first_over m search own sats are grown in
     run_clear m (g.met.S.RowSource.sound source) rules search box (grid_part root) _ (length (rows_of sats)) (renewed_over m search renews (rows_of sats) distinct rows)
-    (test_of rules (rows_of sats)) refl rows refl (grid_box root) refl events run
+    (test_of rules (rows_of sats)) refl refl rows refl (grid_box root) refl events run

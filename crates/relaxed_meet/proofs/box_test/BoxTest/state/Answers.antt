@@ -12,6 +12,6 @@ returns-in_default c = record {
 pub returns-clause-state : goal.returns-clause-state
 returns-clause-state c =
     let test = test_value c.args.self.now in
-    let by_pairs = c.pairs_show_empty.ensures (not_by_spans test c.args.part.now c.box_state-state.result c.in-Undecided.hull c.in-Undecided.is c.box_state-state.ensures) in
+    let by_pairs = c.pairs_show_empty.ensures.shows (not_by_spans test c.args.part.now c.box_state-state.result c.in-Undecided.hull c.in-Undecided.is c.box_state-state.ensures) in
     undecided_by_both test c.args.part.now c.box_state-state.result c.in-Undecided.hull c.in-Undecided.is c.box_state-state.ensures
     (λ e. let t = by_pairs.1 e in let f = c.if-pairs_show_empty.false in absurd cc)
