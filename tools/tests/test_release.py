@@ -305,7 +305,7 @@ class TestThisRepository:
         ended = os.times()
         took = ended.children_user + ended.children_system - began.children_user - began.children_system
         assert (solved.returncode, solved.stderr) == (0, "")
-        assert checked.stdout == "yes 259\n"
+        assert checked.stdout == "yes 255\n"
         assert "epochs 4: 4 with a region" in table.stdout
         # Of the processor's time, so that it is the same on a busy machine.
         assert took < 5
